@@ -1,0 +1,4 @@
+pub mod Actor
+pub mod Event
+pub mod History
+pub mod Lock

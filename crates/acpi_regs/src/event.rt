@@ -1,0 +1,40 @@
+ghost use Rattle.std.specs.Prelude.{◌≡◌};
+ghost use Rattle.acpi_regs.specs.Event.{fixed_bit};
+
+/// A fixed event of the PM1 registers (ACPI 6.5, section 4.8.3.1), in the order in which events are served.
+#[derive(Clone, Copy, Debug, PartialEq, Eq, PartialOrd, Ord)]
+pub enum Fixed {
+    /// The power management timer carried.
+    Tmr,
+    /// The firmware released the Global Lock and the OS was waiting for it.
+    Gbl,
+    /// The power button was pressed.
+    Pwr,
+    /// The sleep button was pressed.
+    Slp,
+    /// The real-time clock's alarm went off.
+    Rtc,
+}
+
+impl Fixed {
+    /// The bit of the event in the PM1 status and enable registers (ACPI 6.5, tables 4.11 and 4.12).
+    pub fn bit(self) -> u8
+        ensures { result ≡ fixed_bit self }
+    {
+        match self {
+            Fixed::Tmr => 0,
+            Fixed::Gbl => 5,
+            Fixed::Pwr => 8,
+            Fixed::Slp => 9,
+            Fixed::Rtc => 10,
+        }
+    }
+}
+
+/// An event that can raise an SCI: a fixed event, or a general-purpose event by its number
+/// (ACPI 6.5, section 5.6.4). Fixed events come first, then GPEs by number.
+#[derive(Clone, Copy, Debug, PartialEq, Eq, PartialOrd, Ord)]
+pub enum Event {
+    Fixed(Fixed),
+    Gpe(u8),
+}
