@@ -1,13 +1,20 @@
-// A library with one function.
+//! The board: a machine, the journal of what happened on it, and what follows from the journal.
+//!
+//! It stands on `machine_desc` and `acpi_regs`. [`Board::can`] is true exactly where the journal with one more entry
+//! is legal (`specs/Legal.antt`), and [`Board::apply`] appends that entry and nothing else. Each reader gives the
+//! value that a definition of `specs/` has for the journal, in constant time: the board keeps beside the journal
+//! what the definitions find by looking back.
+//!
+//! The laws in [`laws`] tie the definitions to the sentences that they stand for.
 #![tactic(auto)]
 
-ghost use Rattle.std.specs.Prelude.{◌≡◌};
-ghost use Rattle.machine_core.specs.Echo.{echo_of};
+mod board;
+pub mod laws;
+mod rule;
+mod script;
 
-// The `ensures` clause is the contract: what `echo` returns is `echo_of` of its argument, a definition
-// in `specs/Echo.antt`, which a caller's clause can cite too.
-pub fn echo(x: usize) -> usize
-    ensures { result ≡ echo_of x }
-{
-    x
-}
+pub use board::Board;
+pub use rule::LogRule;
+
+#[cfg(test)]
+mod tests;

@@ -1,5 +1,5 @@
 -- A machine as plain data.
-use Rattle.std.specs.Prelude.{ℕ, ◌+◌, List, ◌++◌, length, map, sum_by, replicate, ◌-◌, Option, Some, None, option_map, slice_get, slice_index}
+use Rattle.std.specs.Prelude.{ℕ, ◌-◌, List, [], ◌++◌, length, map, sum_by, replicate, Option, Some, None, unwrap_or, slice_get, slice_index}
 use Rattle.acpi_regs.specs.declared.entry.Cell.{Cell}
 use Rattle.machine_desc.specs.declared.parts.Region.{Region}
 use Rattle.machine_desc.specs.declared.parts.RegionPart.{RegionPart}
@@ -27,6 +27,10 @@ byte_at (Some region) offset = slice_index region.cells offset
 -- the description's byte of a cell
 abbrev pub first_byte : MachineData → Cell → ℕ
 first_byte m c = byte_at (slice_get m.regions c.region) c.offset
+
+-- the operations of a firmware script; there are none where the machine has no such script
+abbrev pub script_of : MachineData → ℕ → List Op
+script_of m k = unwrap_or (slice_get m.firmware k) []
 
 -- at most how many entries the machine's history can have: each operation is one access
 abbrev pub weight_of : MachineData → ℕ

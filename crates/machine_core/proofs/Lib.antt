@@ -1,0 +1,5 @@
+pub mod Each
+pub mod Ended
+pub mod Kept
+pub mod Once
+pub mod Steps
