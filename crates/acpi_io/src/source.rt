@@ -88,7 +88,7 @@ pub fn read_all<S: Source>(
         Rose (S.faults source.old) (S.faults source.new) }
 
     // Each read but the last took a byte.
-    ensures turns { S.reads source.new ≤ S.reads source.old + limit + 2 }
+    ensures turns { S.reads source.new ≤ S.reads source.old + limit + 1 }
 {
     let mut piece = empty_piece(alloc)?;
     read_pieces(alloc, source, limit, piece.as_mut_slice())
@@ -113,7 +113,7 @@ fn read_pieces<S: Source>(
     ensures later { S.faults source.old ≤ S.faults source.new }
     ensures cause { IsErrOf result ReadAllFault.ReadFault →
         Rose (S.faults source.old) (S.faults source.new) }
-    ensures turns { S.reads source.new ≤ S.reads source.old + limit + 2 }
+    ensures turns { S.reads source.new ≤ S.reads source.old + limit + 1 }
 {
     let mut bytes = Vec::new(alloc);
     loop {

@@ -38,7 +38,8 @@ impl<R: Read> Source for StdSource<R> {
         requires { 0 < length into.old }
         ensures bytes { ReadTakes result None None into.new }
         ensures later { read_faults self.old ≤ read_faults self.new }
-        ensures cause { result ≡ ReadOutcome.Failed → Rose (read_faults self.old) (read_faults self.new) }
+        ensures cause { result ≡ ReadOutcome.Failed →
+            Rose (read_faults self.old) (read_faults self.new) }
 
         // What the reader tells is passed on, and each failure is counted once.
         ensures passed_on { ReadTakes result (R.remaining (reader_of self.old))
@@ -85,7 +86,8 @@ impl<W: Write> Sink for StdSink<W> {
         requires { 0 < length piece.now }
         ensures bytes { WriteAdds result None None piece.now }
         ensures later { write_faults self.old ≤ write_faults self.new }
-        ensures cause { result ≡ WriteOutcome.Failed → Rose (write_faults self.old) (write_faults self.new) }
+        ensures cause { result ≡ WriteOutcome.Failed →
+            Rose (write_faults self.old) (write_faults self.new) }
 
         // What the writer tells is passed on, and each failure is counted once.
         ensures passed_on { WriteAdds result (W.contents (writer_of self.old))

@@ -183,3 +183,18 @@ fn a_writer_that_takes_nothing_or_errs_is_a_write_fault(rt: HostRuntime) {
     assert_eq!(rt; write_all(&mut sink, b"b"), Err(WriteFault));
     assert_eq!(rt; write_all(&mut sink, b"b"), Err(WriteFault));
 }
+
+#[test]
+fn a_fault_prints_its_name(rt: HostRuntime) -> Result<(), Fail> {
+    let alloc = rt.alloc();
+    let faults = [
+        (ReadAllFault::ReadFault, "ReadFault"),
+        (ReadAllFault::TooLarge, "TooLarge"),
+        (ReadAllFault::Memory, "Memory"),
+    ];
+    for (fault, name) in faults {
+        assert_eq!(rt; fault.to_string(alloc)?.as_str(), name);
+    }
+    assert_eq!(rt; WriteFault.to_string(alloc)?.as_str(), "WriteFault");
+    Ok(())
+}
