@@ -1,13 +1,28 @@
-// A library with one function.
+//! Bytes in and out of the ACPI event core.
+//!
+//! The program reads its input through a [`Source`] and writes its log through a [`Sink`]. Each has a count of
+//! faults that never falls, so a call above can promise that it answers a fault only where one came.
+//! [`read_all`] reads a source to its end, and [`write_all`] writes all bytes to a sink. [`MemorySource`] and
+//! [`MemorySink`] keep their bytes in memory and fail where they are told to, and [`StdSource`] and [`StdSink`]
+//! stand over the readers and writers of `std`.
+//!
+//! It stands on `acpi_regs`, for the error for want of memory, and on `std`. Its contracts are the definitions in
+//! `specs/`: `Rose` of a count of faults; `ReadTakes` and `ReadsAll` of the bytes that a source has left;
+//! `WriteAdds` and `WritesAll` of the bytes that a sink holds; and, exactly, what the next call of a source or a
+//! sink in memory answers and what it leaves.
 #![tactic(auto)]
 
-ghost use Rattle.std.specs.Prelude.{◌≡◌};
-ghost use Rattle.acpi_io.specs.Echo.{echo_of};
+mod memory_sink;
+mod memory_source;
+mod sink;
+mod source;
+mod standard;
 
-// The `ensures` clause is the contract: what `echo` returns is `echo_of` of its argument, a definition
-// in `specs/Echo.antt`, which a caller's clause can cite too.
-pub fn echo(x: usize) -> usize
-    ensures { result ≡ echo_of x }
-{
-    x
-}
+pub use memory_sink::MemorySink;
+pub use memory_source::MemorySource;
+pub use sink::{Sink, WriteFault, WriteOutcome, write_all};
+pub use source::{ReadAllFault, ReadOutcome, Source, read_all};
+pub use standard::{StdSink, StdSource};
+
+#[cfg(test)]
+mod tests;

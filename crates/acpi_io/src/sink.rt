@@ -1,0 +1,65 @@
+ghost use Rattle.std.specs.Prelude.{◌≡◌, ℕ, ◌<◌, ◌≤◌, [], List, Option, length, IsOk, OnErr};
+ghost use Rattle.acpi_io.specs.Faults.{Rose};
+ghost use Rattle.acpi_io.specs.Sink.{WriteAdds, WritesAll};
+
+use std::error::Error;
+use std::fmt;
+
+/// What a write to a [`Sink`] came to.
+#[derive(Clone, Copy, Debug, PartialEq, Eq)]
+pub enum WriteOutcome {
+    /// So many bytes were taken, at least one, from the front of the piece.
+    Took(usize),
+    /// The sink failed in this call and took nothing.
+    Failed,
+}
+
+/// Where bytes go.
+pub trait Sink {
+    /// The bytes that were taken so far, where the sink tells them.
+    ghost held: { Self → Option (List ℕ) };
+
+    /// How often the sink has failed. It never falls, and it may stand still at 2^64 - 1.
+    ghost faults: { Self → ℕ };
+
+    /// Takes some bytes from the front of a piece that is not empty.
+    fn write(&mut self, piece: &[u8]) -> WriteOutcome
+        requires { 0 < length piece.now }
+        ensures bytes { WriteAdds result (held self.old) (held self.new) piece.now }
+        ensures later { faults self.old ≤ faults self.new }
+        ensures cause { result ≡ WriteOutcome.Failed → Rose (faults self.old) (faults self.new) };
+}
+
+/// A write failed.
+#[derive(Clone, Copy, Debug, PartialEq, Eq)]
+pub struct WriteFault;
+
+impl fmt::Display for WriteFault {
+    fn fmt<W: fmt::Write>(&self, f: &mut fmt::Formatter<W>) -> fmt::Result {
+        f.write_str("WriteFault")
+    }
+}
+
+impl Error for WriteFault {}
+
+/// Writes all bytes to a sink, in order. With no bytes it makes no call.
+///
+/// It answers `WriteFault` where a write failed. The sink has then taken the bytes up to some place.
+pub fn write_all<K: Sink>(sink: &mut K, bytes: &[u8]) -> Result<(), WriteFault>
+    ensures ends { WritesAll (K.held sink.old) (K.held sink.new) bytes.now result }
+    ensures later { K.faults sink.old ≤ K.faults sink.new }
+    ensures cause { OnErr result (Rose (K.faults sink.old) (K.faults sink.new)) }
+    ensures empty { bytes.now ≡ [] → IsOk result × (sink.new ≡ sink.old) }
+{
+    let mut rest = bytes;
+    while !rest.is_empty() {
+        match sink.write(rest) {
+            WriteOutcome::Took(count) => {
+                let (_, after) = rest.split_at(count);
+                rest = after;
+            }
+            WriteOutcome::Failed => return Err(WriteFault),
+        }
+    }
+    Ok(())
+}
