@@ -1,5 +1,6 @@
 pub mod Each
 pub mod Ended
 pub mod Kept
+pub mod Next
 pub mod Once
 pub mod Steps

@@ -69,13 +69,17 @@ plan_after-end (deed.Read c v) = refl
 plan_after-end (deed.Write c v) = refl
 plan_after-end _ = refl
 
-pub plan_left-none : (m : MachineData) (past : List Entry) (a : Actor) → is_machine m ≡ true → (a ≡ actor.Firmware 0 → ⊥) → plan_left m past a ≡ End
-plan_left-none m [] a ok other = first_plan-none m a ok other
-plan_left-none m (e ∷ past) a ok other = step (same_actor a e.actor) (plan_left-none m past a ok other)
+-- who begins with nothing to do never has anything to do
+pub plan_left-end : (m : MachineData) (past : List Entry) (a : Actor) → first_plan m a ≡ End → plan_left m past a ≡ End
+plan_left-end m [] a none = none
+plan_left-end m (e ∷ past) a none = step (same_actor a e.actor) (plan_left-end m past a none)
   where
     step : (b : Bool) → plan_left m past a ≡ End → cond b (plan_after e.deed (plan_left m past a)) (plan_left m past a) ≡ End
     step true rest = ap (plan_after e.deed) rest ∙ plan_after-end e.deed
     step false rest = rest
+
+pub plan_left-none : (m : MachineData) (past : List Entry) (a : Actor) → is_machine m ≡ true → (a ≡ actor.Firmware 0 → ⊥) → plan_left m past a ≡ End
+plan_left-none m past a ok other = plan_left-end m past a (first_plan-none m a ok other)
 
 -- ---- operations
 

@@ -1,0 +1,4 @@
+pub mod CanonicalLemmas
+pub mod DescriptionLemmas
+pub mod RunLemmas
+pub mod Writing

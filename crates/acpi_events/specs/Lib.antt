@@ -1,0 +1,5 @@
+pub mod Canonical
+pub mod Description
+pub mod Run
+pub mod Text
+pub mod Written

@@ -1,0 +1,1 @@
+//! The program over sources and sinks in memory.
