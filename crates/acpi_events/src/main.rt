@@ -28,6 +28,8 @@ fn main(rt: HostRuntime) -> ExitCode {
     let mut sink = StdSink::new(io::writer(&rt));
     let status = match words(&rt) {
         Ok(words) => acpi_events(rt.alloc(), &words, &mut source, &mut sink),
+        Err(error) if error.kind() == io::ErrorKind::OutOfMemory => Status::Memory,
+        // A word that is no text.
         Err(_) => Status::Usage,
     };
     if status != Status::Ok {

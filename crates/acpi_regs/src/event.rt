@@ -17,7 +17,7 @@ pub enum Fixed {
 }
 
 impl Fixed {
-    /// The bit of the event in the PM1 status and enable registers (ACPI 6.5, tables 4.11 and 4.12).
+    /// The bit of the event in the PM1 status and enable registers (ACPI 6.5, sections 4.8.3.1.1 and 4.8.3.1.2).
     pub fn bit(self) -> u8
         ensures { result ≡ fixed_bit self }
     {
