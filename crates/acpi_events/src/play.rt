@@ -28,7 +28,8 @@ pub fn play(board: &mut Board)
 
 /// The entry that the first firmware makes for its next act.
 fn entry_of(board: &Board, act: Act) -> Entry
-    requires next { next_of board.now.machine (reverse board.now.entries) (Actor.Firmware 0) ≡ Some act }
+    requires next { next_of board.now.machine (reverse board.now.entries) (Actor.Firmware 0)
+        ≡ Some act }
     requires cell { IsCell board.now.machine (cell_of_act act) }
     ensures { Legal board.now.machine (board.now.entries ++ result ∷ []) }
 {

@@ -18,7 +18,8 @@ use std::alloc::Global;
 
 /// Runs the machine that the bytes describe, and writes its log to the sink.
 pub fn run<K: Sink>(alloc: Global, bytes: &[u8], sink: &mut K) -> Status
-    ensures ends { FromBytes bytes.now (sink.new ≡ sink.old) (K.held sink.old) (K.held sink.new) result }
+    ensures ends { FromBytes bytes.now (sink.new ≡ sink.old)
+        (K.held sink.old) (K.held sink.new) result }
     ensures later { K.faults sink.old ≤ K.faults sink.new }
     ensures cause { result ≡ Status.WriteFault → Rose (K.faults sink.old) (K.faults sink.new) }
 {
@@ -37,7 +38,8 @@ pub fn run<K: Sink>(alloc: Global, bytes: &[u8], sink: &mut K) -> Status
 fn prepare_run(alloc: Global, bytes: &[u8]) -> Result<Prepared, ReaderFault>
     ensures ok { IfOk result (λ p. Describes bytes.now p.board.machine) }
     ensures not_json { IsErrOf result ReaderFault.NotJson → (d : Data) → IsJson bytes.now d → ⊥ }
-    ensures not_built { IsErrOf result ReaderFault.NotBuilt → (d : Data) × IsJson bytes.now d × (machine_in d ≡ None) }
+    ensures not_built { IsErrOf result ReaderFault.NotBuilt
+        → (d : Data) × IsJson bytes.now d × (machine_in d ≡ None) }
 {
     let machine = read_machine(alloc, bytes)?;
     let Ok(text) = write_machine(alloc, &machine) else {
@@ -52,7 +54,8 @@ fn prepare_run(alloc: Global, bytes: &[u8]) -> Result<Prepared, ReaderFault>
 /// Runs a prepared machine to its end and writes its log. It takes no memory.
 fn carry_out<K: Sink>(prepared: Prepared, sink: &mut K) -> Result<(), WriteFault>
     ensures ends { (history : List Entry) × Complete prepared.board.machine history
-        × WritesAll (K.held sink.old) (K.held sink.new) (text prepared.board.machine history) result }
+        × WritesAll (K.held sink.old) (K.held sink.new)
+            (text prepared.board.machine history) result }
     ensures later { K.faults sink.old ≤ K.faults sink.new }
     ensures cause { OnErr result (Rose (K.faults sink.old) (K.faults sink.new)) }
 {

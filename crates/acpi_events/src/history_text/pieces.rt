@@ -43,7 +43,8 @@ impl Pieces {
     ///
     /// Answers `WriteFault` where a write failed; the sink has then taken a front of all the text.
     pub fn put<K: Sink>(&mut self, sink: &mut K, text: &[u8]) -> Result<(), WriteFault>
-        ensures goes_on { GoesOn (K.held sink.old) (K.held sink.new) (self.old ++ text.now) self.new result }
+        ensures goes_on { GoesOn (K.held sink.old) (K.held sink.new)
+            (self.old ++ text.now) self.new result }
         ensures later { K.faults sink.old ≤ K.faults sink.new }
         ensures cause { OnErr result (Rose (K.faults sink.old) (K.faults sink.new)) }
     {
@@ -60,7 +61,8 @@ impl Pieces {
     /// Puts text that fits behind what waits, and hands the piece over where it is full.
     fn gather<K: Sink>(&mut self, sink: &mut K, text: &[u8]) -> Result<(), WriteFault>
         requires { length self.old + length text.now ≤ PIECE_LEN }
-        ensures goes_on { GoesOn (K.held sink.old) (K.held sink.new) (self.old ++ text.now) self.new result }
+        ensures goes_on { GoesOn (K.held sink.old) (K.held sink.new)
+            (self.old ++ text.now) self.new result }
         ensures later { K.faults sink.old ≤ K.faults sink.new }
         ensures cause { OnErr result (Rose (K.faults sink.old) (K.faults sink.new)) }
     {

@@ -18,7 +18,8 @@ pub fn write_log<K: Sink>(
     board: &Board,
     sink: &mut K,
 ) -> Result<(), WriteFault>
-    ensures ends { WritesAll (K.held sink.old) (K.held sink.new) (log_text machine_text.now board.now.entries) result }
+    ensures ends { WritesAll (K.held sink.old) (K.held sink.new)
+        (log_text machine_text.now board.now.entries) result }
     ensures later { K.faults sink.old ≤ K.faults sink.new }
     ensures cause { OnErr result (Rose (K.faults sink.old) (K.faults sink.new)) }
 {
@@ -35,7 +36,8 @@ fn put_machine<K: Sink>(
     sink: &mut K,
     machine_text: &[u8],
 ) -> Result<(), WriteFault>
-    ensures goes_on { GoesOn (K.held sink.old) (K.held sink.new) (pieces.old ++ machine_line machine_text.now) pieces.new result }
+    ensures goes_on { GoesOn (K.held sink.old) (K.held sink.new)
+        (pieces.old ++ machine_line machine_text.now) pieces.new result }
     ensures later { K.faults sink.old ≤ K.faults sink.new }
     ensures cause { OnErr result (Rose (K.faults sink.old) (K.faults sink.new)) }
 {
@@ -46,7 +48,8 @@ fn put_machine<K: Sink>(
 
 /// Puts a line for each entry of the board behind what waits.
 fn put_entries<K: Sink>(pieces: &mut Pieces, sink: &mut K, board: &Board) -> Result<(), WriteFault>
-    ensures goes_on { GoesOn (K.held sink.old) (K.held sink.new) (pieces.old ++ entry_lines board.now.entries) pieces.new result }
+    ensures goes_on { GoesOn (K.held sink.old) (K.held sink.new)
+        (pieces.old ++ entry_lines board.now.entries) pieces.new result }
     ensures later { K.faults sink.old ≤ K.faults sink.new }
     ensures cause { OnErr result (Rose (K.faults sink.old) (K.faults sink.new)) }
 {
