@@ -55,7 +55,7 @@ fn prepare_run(alloc: Global, bytes: &[u8]) -> Result<Prepared, ReaderFault>
 fn carry_out<K: Sink>(prepared: Prepared, sink: &mut K) -> Result<(), WriteFault>
     ensures ends { (history : List Entry) × Complete prepared.board.machine history
         × WritesAll (K.held sink.old) (K.held sink.new)
-            (text prepared.board.machine history) result }
+        (text prepared.board.machine history) result }
     ensures later { K.faults sink.old ≤ K.faults sink.new }
     ensures cause { OnErr result (Rose (K.faults sink.old) (K.faults sink.new)) }
 {

@@ -78,7 +78,11 @@ fn run(alloc: Global, description: &[u8], faults: Faults) -> Result<Outcome, Fai
 fn the_empty_machine_and_two_accesses_run(rt: HostRuntime) -> Result<(), Fail> {
     for (description, log) in [(EMPTY, EMPTY_LOG), (TWO, TWO_LOG)] {
         for most in [1, 7, 16, 65536] {
-            let outcome = run(rt.alloc(), description.as_bytes(), Faults { most, ..NO_FAULTS })?;
+            let outcome = run(
+                rt.alloc(),
+                description.as_bytes(),
+                Faults { most, ..NO_FAULTS },
+            )?;
             assert_eq!(rt; outcome.status, Status::Ok);
             assert!(rt; outcome.held.as_slice() == log.as_bytes(), "{description}");
         }
@@ -125,14 +129,37 @@ fn a_failing_read_is_a_read_fault(rt: HostRuntime) -> Result<(), Fail> {
         // The calls that bring bytes, and the one that finds the end.
         let calls = bytes.len().div_ceil(most) as u64 + 1;
         for number in 0..calls {
-            let faults = Faults { read: Some(number), write: None, most };
+            let faults = Faults {
+                read: Some(number),
+                write: None,
+                most,
+            };
             let outcome = run(rt.alloc(), bytes, faults)?;
-            assert_eq!(rt; outcome.status, Status::ReadFault, "read {number} of at most {most}");
+            assert_eq!(rt;
+                outcome.status,
+                Status::ReadFault,
+                "read {number} of at most {most}"
+            );
             assert_eq!(rt; outcome.writes, 0);
         }
-        let outcome = run(rt.alloc(), bytes, Faults { read: Some(calls), write: None, most })?;
+        let outcome = run(
+            rt.alloc(),
+            bytes,
+            Faults {
+                read: Some(calls),
+                write: None,
+                most,
+            },
+        )?;
         assert_eq!(rt; outcome.status, Status::Ok);
     }
+    let first = Faults {
+        read: Some(0),
+        ..NO_FAULTS
+    };
+    let outcome = run(rt.alloc(), EMPTY.as_bytes(), first)?;
+    assert_eq!(rt; outcome.status, Status::ReadFault);
+    assert_eq!(rt; outcome.writes, 0);
     Ok(())
 }
 
@@ -142,9 +169,17 @@ fn a_failing_write_is_a_write_fault(rt: HostRuntime) -> Result<(), Fail> {
     let log = TWO_LOG.as_bytes();
     for most in [1usize, 7, 16] {
         for number in 0..log.len().div_ceil(most) {
-            let faults = Faults { read: None, write: Some(number as u64), most };
+            let faults = Faults {
+                read: None,
+                write: Some(number as u64),
+                most,
+            };
             let outcome = run(rt.alloc(), TWO.as_bytes(), faults)?;
-            assert_eq!(rt; outcome.status, Status::WriteFault, "write {number} of at most {most}");
+            assert_eq!(rt;
+                outcome.status,
+                Status::WriteFault,
+                "write {number} of at most {most}"
+            );
             assert_eq!(rt; outcome.held.len(), number.saturating_mul(most));
             assert!(rt; log.starts_with(&outcome.held));
         }
@@ -158,7 +193,10 @@ fn a_sink_with_no_room_left_is_a_write_fault(rt: HostRuntime) -> Result<(), Fail
     let words = words(alloc, &["run"])?;
     let mut source = MemorySource::new(TWO.as_bytes().to_vec(alloc)?, Vec::new(alloc), 100);
     let mut sink = MemorySink::new(alloc, Vec::new(alloc), 16, 32)?;
-    assert_eq!(rt; acpi_events(alloc, &words, &mut source, &mut sink), Status::WriteFault);
+    assert_eq!(rt;
+        acpi_events(alloc, &words, &mut source, &mut sink),
+        Status::WriteFault
+    );
     assert!(rt; sink.held() == &TWO_LOG.as_bytes()[..32]);
     Ok(())
 }
@@ -187,12 +225,22 @@ impl Source for Unread {
 #[test]
 fn words_that_are_no_command_leave_the_source_unread(rt: HostRuntime) -> Result<(), Fail> {
     let alloc = rt.alloc();
-    let cases: [&[&str]; 6] = [&[], &["run", "now"], &["--help"], &["Run"], &[""], &["run", ""]];
+    let cases: [&[&str]; 6] = [
+        &[],
+        &["run", "now"],
+        &["--help"],
+        &["Run"],
+        &[""],
+        &["run", ""],
+    ];
     for texts in cases {
         let words = words(alloc, texts)?;
         let mut source = Unread { reads: 0 };
         let mut sink = MemorySink::new(alloc, Vec::new(alloc), 1, 8)?;
-        assert_eq!(rt; acpi_events(alloc, &words, &mut source, &mut sink), Status::Usage);
+        assert_eq!(rt;
+            acpi_events(alloc, &words, &mut source, &mut sink),
+            Status::Usage
+        );
         assert_eq!(rt; source.reads, 0);
         assert_eq!(rt; sink.writes(), 0);
     }
@@ -219,7 +267,9 @@ fn many_writes(alloc: Global, count: u32) -> Result<String, AllocError> {
     for _ in 1..count {
         text.push_str(",[\"write\",0,257]")?;
     }
-    text.push_str("]],\"gpe\":{\"base1\":0,\"gpe0\":2,\"gpe1\":0},\"regions\":[{\"bytes\":[],\"kind\":\"memory\",\"len\":1}],\"schedule\":[],\"version\":1,\"workers\":1}")?;
+    text.push_str(
+        "]],\"gpe\":{\"base1\":0,\"gpe0\":2,\"gpe1\":0},\"regions\":[{\"bytes\":[],\"kind\":\"memory\",\"len\":1}],\"schedule\":[],\"version\":1,\"workers\":1}",
+    )?;
     Ok(text)
 }
 
@@ -229,7 +279,11 @@ fn a_log_of_4096_entries_reaches_the_sink_in_few_writes(rt: HostRuntime) -> Resu
     let outcome = run(rt.alloc(), description.as_bytes(), NO_FAULTS)?;
     assert_eq!(rt; outcome.status, Status::Ok);
     assert!(rt; outcome.writes < 100, "{} writes", outcome.writes);
-    assert!(rt; outcome.held.ends_with(b"\nf0 write 00:0000 01\nrest 4096\n"));
+    assert!(rt;
+        outcome
+            .held
+            .ends_with(b"\nf0 write 00:0000 01\nrest 4096\n")
+    );
     let description = many_writes(rt.alloc(), 4097)?;
     let outcome = run(rt.alloc(), description.as_bytes(), NO_FAULTS)?;
     assert_eq!(rt; outcome.status, Status::NotBuilt);
