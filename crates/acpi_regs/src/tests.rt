@@ -18,18 +18,43 @@ fn fixed_events_have_the_bits_of_pm1_status(rt: HostRuntime) {
 
 #[test]
 fn fixed_events_come_before_gpes_and_actors_in_their_order(rt: HostRuntime) {
-    assert!(rt; Event::Fixed(Fixed::Rtc) < Event::Gpe(0));
-    assert!(rt; Event::Gpe(3) < Event::Gpe(4));
-    assert!(rt; Actor::Int < Actor::Poll);
-    assert!(rt; Actor::Worker(3) < Actor::Ec);
-    assert!(rt; Actor::Device(7) < Actor::Firmware(0));
+    let events = [
+        (Event::Fixed(Fixed::Tmr), Event::Fixed(Fixed::Gbl)),
+        (Event::Fixed(Fixed::Gbl), Event::Fixed(Fixed::Pwr)),
+        (Event::Fixed(Fixed::Pwr), Event::Fixed(Fixed::Slp)),
+        (Event::Fixed(Fixed::Slp), Event::Fixed(Fixed::Rtc)),
+        (Event::Fixed(Fixed::Rtc), Event::Gpe(0)),
+        (Event::Gpe(3), Event::Gpe(4)),
+    ];
+    for (first, second) in events {
+        assert!(rt; first < second);
+    }
+    let actors = [
+        (Actor::Int, Actor::Poll),
+        (Actor::Poll, Actor::Worker(0)),
+        (Actor::Worker(3), Actor::Ec),
+        (Actor::Ec, Actor::Device(0)),
+        (Actor::Device(6), Actor::Device(7)),
+        (Actor::Device(7), Actor::Firmware(0)),
+    ];
+    for (first, second) in actors {
+        assert!(rt; first < second);
+    }
 }
 
 #[test]
 fn actors_stand_on_their_sides(rt: HostRuntime) {
-    assert_eq!(rt; Actor::Worker(3).side(), Some(Side::Os));
-    assert_eq!(rt; Actor::Firmware(0).side(), Some(Side::Firmware));
-    assert_eq!(rt; Actor::Ec.side(), None);
+    let sides = [
+        (Actor::Int, Some(Side::Os)),
+        (Actor::Poll, Some(Side::Os)),
+        (Actor::Worker(3), Some(Side::Os)),
+        (Actor::Ec, None),
+        (Actor::Device(0), None),
+        (Actor::Firmware(0), Some(Side::Firmware)),
+    ];
+    for (actor, side) in sides {
+        assert_eq!(rt; actor.side(), side);
+    }
 }
 
 #[test]

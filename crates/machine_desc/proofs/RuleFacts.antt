@@ -1,18 +1,28 @@
 -- What the rules of a machine say of its parts.
-use Rattle.std.proofs.Common.{ℕ, ◌+◌, ◌*◌, ◌/◌, ◌<◌, ◌≤◌, ◌≡◌, zero, suc, Bool, true, false, ◌&&◌, List, [], ◌∷◌, length, Some, None, slice_get, get_or, sum_by, unwrap_or, arith, refl}
+use Rattle.std.proofs.Common.{ℕ, ◌+◌, ◌*◌, ◌/◌, ◌<◌, ◌≤◌, ◌≡◌, zero, suc, Bool, true, List, [], ◌∷◌, length, map, Some, slice_get, get_or, sum_by, unwrap_or, arith, refl}
 use Rattle.std.specs.List.{list_all}
 use Rattle.std.proofs.lemmas.Bool.{and_parts, leb-true, eqb-true}
+use Rattle.std.proofs.lemmas.List.{length-map}
+use Rattle.std.proofs.lemmas.List.Folds.{list_all-map}
 use Rattle.std.proofs.lemmas.Option.{slice_get-get_or}
 use Rattle.machine_desc.specs.declared.parts.Region.{Region}
+use Rattle.machine_desc.specs.declared.parts.RegionPart.{RegionPart}
 use Rattle.machine_desc.specs.declared.parts.FieldPart.{FieldPart}
 use Rattle.machine_desc.specs.declared.script.Op.{Op}
-use Rattle.machine_desc.specs.Machine.{MachineData, script_of, weight_of}
+use Rattle.machine_desc.specs.Machine.{MachineData, region_of, script_of, weight_of}
 use Rattle.machine_desc.specs.Rules.{is_machine, is_region, is_field, is_script, is_op, cells_in}
 
 pub list_all-slice_get : {X : Type 0} (p : X → Bool) (xs : List X) (i : ℕ) (x : X) → list_all p xs ≡ true → slice_get xs i ≡ Some x → p x ≡ true
 list_all-slice_get p [] i x all at = cc
 list_all-slice_get p (y ∷ xs) zero x all at = let parts = and_parts (p y) (list_all p xs) all in cc
 list_all-slice_get p (y ∷ xs) (suc i) x all at = list_all-slice_get p xs i x (and_parts (p y) (list_all p xs) all).1 at
+
+-- all regions that parts describe pass a test where each part's region does
+pub all_described : (p : Region → Bool) (parts : List RegionPart) → list_all p (map region_of parts) ≡ list_all (λ part. p (region_of part)) parts
+all_described p parts = list_all-map p region_of parts
+
+pub count_described : (parts : List RegionPart) → length (map region_of parts) ≡ length parts
+count_described parts = length-map parts region_of
 
 -- the rules, one by one
 pub record Ruled (m : MachineData) : Type 0 where

@@ -54,15 +54,15 @@ impl Machine {
     /// Answers `NotBuilt` exactly where the parts obey not all rules, and `Memory` where room for the cells was wanting.
     pub fn new(alloc: Global, parts: MachineParts) -> Result<Machine, MachineError>
         ensures ok { IfOk result (λ m. accepted parts.regions.items parts.fields.items parts.firmware.items ≡ Some m) }
+        ensures refused { accepted parts.regions.items parts.fields.items parts.firmware.items ≡ None → IsErrOf result MachineError.NotBuilt }
         ensures not_built { IsErrOf result MachineError.NotBuilt → accepted parts.regions.items parts.fields.items parts.firmware.items ≡ None }
     {
-        if !rules::all_fit(&parts.regions) {
+        if !rules::all_fit(&parts.regions)
+            || !rules::is_machine(&parts.regions, &parts.fields, &parts.firmware)
+        {
             return Err(MachineError::NotBuilt);
         }
         let regions = padded_regions(alloc, parts.regions)?;
-        if !rules::is_machine(&regions, &parts.fields, &parts.firmware) {
-            return Err(MachineError::NotBuilt);
-        }
         Ok(Machine {
             regions,
             fields: parts.fields,

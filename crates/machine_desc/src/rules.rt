@@ -1,9 +1,10 @@
 //! The rules of a machine, one function for each definition of `specs/Rules.antt`.
-ghost use Rattle.std.specs.Prelude.{◌≡◌, slice_get};
+ghost use Rattle.std.specs.Prelude.{◌≡◌, ◌&&◌, length, map, nat_le, slice_get};
 ghost use Rattle.std.specs.List.{list_all};
+ghost use Rattle.machine_desc.specs.Machine.{described, region_of};
 ghost use Rattle.machine_desc.specs.Rules as rules;
 
-use crate::{FieldPart, Op, Region, RegionKind, RegionPart, Script};
+use crate::{FieldPart, Op, RegionKind, RegionPart, Script};
 
 /// The greatest number of cells in a memory region.
 const MAX_CELLS: usize = 4096;
@@ -28,12 +29,19 @@ pub fn all_fit(parts: &[RegionPart]) -> bool
     parts.iter().all(fits)
 }
 
-/// Whether the region is memory of 1 to 4,096 cells.
-fn is_region(region: &Region) -> bool
-    ensures { result ≡ rules.is_region region.now }
+/// How many cells the region of this part has: as many as are asked for, and no fewer than bytes are given.
+fn cells_of(part: &RegionPart) -> usize
+    ensures { result ≡ length (region_of part.now).cells }
 {
-    let cells = region.cells.as_slice().len();
-    matches!(region.kind, RegionKind::Memory) && 0 < cells && cells <= MAX_CELLS
+    usize::from(part.len).max(part.bytes.as_slice().len())
+}
+
+/// Whether the part describes memory of 1 to 4,096 cells.
+fn is_region(part: &RegionPart) -> bool
+    ensures { result ≡ rules.is_region (region_of part.now) }
+{
+    let cells = cells_of(part);
+    matches!(part.kind, RegionKind::Memory) && 0 < cells && cells <= MAX_CELLS
 }
 
 /// Whether the field is a whole byte of the first region, which has this many cells, without the lock.
@@ -83,27 +91,37 @@ fn are_scripts(fields: usize, firmware: &[Script]) -> bool
 }
 
 /// How many cells the first region has.
-fn cells_in_first(regions: &[Region]) -> usize
-    ensures { result ≡ rules.cells_in (slice_get regions.now 0) }
+fn cells_in_first(parts: &[RegionPart]) -> usize
+    ensures { result ≡ rules.cells_in (slice_get (map region_of parts.now) 0) }
 {
-    match regions.first() {
-        Some(region) => region.cells.as_slice().len(),
+    match parts.first() {
+        Some(part) => cells_of(part),
         None => 0,
     }
 }
 
-fn are_regions(regions: &[Region]) -> bool
-    ensures { result ≡ list_all rules.is_region regions.now }
+fn are_regions(parts: &[RegionPart]) -> bool
+    ensures { result ≡ list_all (λ part. rules.is_region (region_of part)) parts.now }
 {
-    regions.iter().all(is_region)
+    parts.iter().all(is_region)
 }
 
-/// Whether all rules of a machine hold.
-pub fn is_machine(regions: &[Region], fields: &[FieldPart], firmware: &[Script]) -> bool
-    ensures { result ≡ rules.is_machine (record { regions = regions.now; fields = fields.now; firmware = firmware.now }) }
+/// Whether the parts describe one region at most, and each is memory of 1 to 4,096 cells.
+#[tactic(auto, using(crate::proofs::RuleFacts::all_described, crate::proofs::RuleFacts::count_described))]
+fn is_one_region(parts: &[RegionPart]) -> bool
+    ensures { result ≡ (nat_le (length (map region_of parts.now)) 1 && list_all rules.is_region (map region_of parts.now)) }
 {
-    regions.len() <= 1
-        && are_regions(regions)
+    if parts.len() > 1 {
+        return false;
+    }
+    are_regions(parts)
+}
+
+/// Whether all rules of a machine hold for what the parts describe.
+pub fn is_machine(regions: &[RegionPart], fields: &[FieldPart], firmware: &[Script]) -> bool
+    ensures { result ≡ rules.is_machine (described regions.now fields.now firmware.now) }
+{
+    is_one_region(regions)
         && fields.len() <= MAX_FIELDS
         && are_fields(cells_in_first(regions), fields)
         && firmware.len() <= 1
