@@ -33,7 +33,8 @@ impl Model for Board {
 
     ghost view = { λ b. record { machine = b.machine; entries = b.journal.items } };
 
-    ghost invariant = { λ b. IsKept b.machine b.journal.items b.cells.items b.passed (vec_capacity b.journal) };
+    ghost invariant = { λ b. IsKept b.machine b.journal.items b.cells.items b.passed
+        (vec_capacity b.journal) };
 }
 
 impl Board {
@@ -137,7 +138,8 @@ impl Board {
 
     /// The next act of the first firmware script.
     fn first_act(&self) -> Option<Act>
-        ensures next { result ≡ next_of self.now.machine (reverse self.now.entries) (Actor.Firmware 0) }
+        ensures next { result ≡ next_of self.now.machine (reverse self.now.entries)
+            (Actor.Firmware 0) }
         ensures cell { IfSome result (λ act. IsCell self.now.machine (cell_of_act act)) }
         ensures room { OnSome result (length self.now.entries < weight_of self.now.machine) }
     {
@@ -158,7 +160,8 @@ impl Board {
     }
 
     fn read_refusal(&self, actor: Actor, cell: Cell, byte: u8) -> Option<LogRule>
-        ensures { result ≡ refusal self.now.machine (reverse self.now.entries) (record { actor = actor; deed = Deed.Read cell byte }) }
+        ensures { result ≡ refusal self.now.machine (reverse self.now.entries)
+            (record { actor = actor; deed = Deed.Read cell byte }) }
     {
         if !self.runs_scripts(actor) {
             return Some(LogRule::Actor);
@@ -173,7 +176,8 @@ impl Board {
     }
 
     fn write_refusal(&self, actor: Actor, cell: Cell, byte: u8) -> Option<LogRule>
-        ensures { result ≡ refusal self.now.machine (reverse self.now.entries) (record { actor = actor; deed = Deed.Write cell byte }) }
+        ensures { result ≡ refusal self.now.machine (reverse self.now.entries)
+            (record { actor = actor; deed = Deed.Write cell byte }) }
     {
         if !self.runs_scripts(actor) {
             return Some(LogRule::Actor);

@@ -9,20 +9,24 @@ ghost use Rattle.machine_core.specs.Legal.{EachAllowed, Legal};
 
 /// A history is legal exactly where each of its entries is allowed after those before it.
 pub fn law_legal_each()
-    ensures { (m : MachineData) (history : List Entry) → Legal m history ↔ EachAllowed m history }
+    ensures { (m : MachineData) (history : List Entry)
+        → Legal m history ↔ EachAllowed m history }
 {}
 
 /// In a legal history each read gives the last byte written to its cell, or the description's.
 pub fn law_reads_last()
-    ensures { (m : MachineData) (history : List Entry) → Legal m history → ReadsLast m history }
+    ensures { (m : MachineData) (history : List Entry)
+        → Legal m history → ReadsLast m history }
 {}
 
 /// In a complete history each firmware script made its acts, each once and in its order.
 pub fn law_scripts_once()
-    ensures { (m : MachineData) (history : List Entry) → Complete m history → ScriptsOnce m history }
+    ensures { (m : MachineData) (history : List Entry)
+        → Complete m history → ScriptsOnce m history }
 {}
 
 /// A legal history of a machine has at most as many entries as the machine's weight.
 pub fn law_weight()
-    ensures { (m : MachineData) (history : List Entry) → IsTrue (is_machine m) → Legal m history → length history ≤ weight_of m }
+    ensures { (m : MachineData) (history : List Entry)
+        → IsTrue (is_machine m) → Legal m history → length history ≤ weight_of m }
 {}

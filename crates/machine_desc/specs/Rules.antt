@@ -4,6 +4,7 @@ use Rattle.std.specs.List.{list_all}
 use Rattle.machine_desc.specs.declared.parts.Region.{Region}
 use Rattle.machine_desc.specs.declared.parts.RegionKind.{RegionKind}
 use Rattle.machine_desc.specs.declared.parts.RegionKind.TheVariants as kind
+use Rattle.machine_desc.specs.declared.parts.MachineParts.{MachineParts}
 use Rattle.machine_desc.specs.declared.parts.RegionPart.{RegionPart}
 use Rattle.machine_desc.specs.declared.parts.FieldPart.{FieldPart}
 use Rattle.machine_desc.specs.declared.script.Op.{Op}
@@ -44,6 +45,10 @@ is_script fields ops = nat_le (length ops) 4096 && list_all (is_op fields) ops
 abbrev pub is_machine : MachineData → Bool
 is_machine m = nat_le (length m.regions) 1 && list_all is_region m.regions && nat_le (length m.fields) 256 && list_all (is_field (cells_in (slice_get m.regions 0))) m.fields && nat_le (length m.firmware) 1 && list_all (is_script (length m.fields)) m.firmware
 
--- the machine that parts describe, where they obey the rules
+-- the machine that lists of parts describe, where they obey the rules
 abbrev pub accepted : List RegionPart → List FieldPart → List (List Op) → Option MachineData
 accepted regions fields firmware = if list_all fits regions && is_machine (described regions fields firmware) then Some (described regions fields firmware) else None
+
+-- the machine that the parts of a description describe
+abbrev pub machine_of : MachineParts → Option MachineData
+machine_of parts = accepted parts.regions.items parts.fields.items parts.firmware.items

@@ -1,6 +1,6 @@
 ghost use Rattle.std.specs.Prelude.{◌≡◌, ◌<◌, IsTrue, IfOk, IsErrOf, Some, None, map};
 ghost use Rattle.std.specs.List.{list_all};
-ghost use Rattle.machine_desc.specs.Rules.{accepted, is_machine, fits};
+ghost use Rattle.machine_desc.specs.Rules.{fits, is_machine, machine_of};
 ghost use Rattle.machine_desc.specs.Machine.{weight_of, region_of};
 
 use crate::{FieldPart, MachineParts, Region, RegionPart, Script, rules};
@@ -43,19 +43,28 @@ impl Model for Machine {
 
     ghost Value = { MachineData };
 
-    ghost view = { λ m. record { regions = m.regions.items; fields = m.fields.items; firmware = m.firmware.items } };
+    ghost view = { λ m. record {
+      regions = m.regions.items;
+      fields = m.fields.items;
+      firmware = m.firmware.items;
+    } };
 
-    ghost invariant = { λ m. IsTrue (is_machine (record { regions = m.regions.items; fields = m.fields.items; firmware = m.firmware.items })) };
+    ghost invariant = { λ m. IsTrue (is_machine (record {
+      regions = m.regions.items;
+      fields = m.fields.items;
+      firmware = m.firmware.items;
+    })) };
 }
 
 impl Machine {
     /// The machine that these parts describe.
     ///
-    /// Answers `NotBuilt` exactly where the parts obey not all rules, and `Memory` where room for the cells was wanting.
+    /// Answers `NotBuilt` exactly where the parts obey not all rules, and `Memory` only where they do and room for the
+    /// cells was wanting.
     pub fn new(alloc: Global, parts: MachineParts) -> Result<Machine, MachineError>
-        ensures ok { IfOk result (λ m. accepted parts.regions.items parts.fields.items parts.firmware.items ≡ Some m) }
-        ensures refused { accepted parts.regions.items parts.fields.items parts.firmware.items ≡ None → IsErrOf result MachineError.NotBuilt }
-        ensures not_built { IsErrOf result MachineError.NotBuilt → accepted parts.regions.items parts.fields.items parts.firmware.items ≡ None }
+        ensures ok { IfOk result (λ m. machine_of parts ≡ Some m) }
+        ensures refused { machine_of parts ≡ None → IsErrOf result MachineError.NotBuilt }
+        ensures not_built { IsErrOf result MachineError.NotBuilt → machine_of parts ≡ None }
     {
         if !rules::all_fit(&parts.regions)
             || !rules::is_machine(&parts.regions, &parts.fields, &parts.firmware)

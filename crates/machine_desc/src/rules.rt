@@ -109,7 +109,8 @@ fn are_regions(parts: &[RegionPart]) -> bool
 /// Whether the parts describe one region at most, and each is memory of 1 to 4,096 cells.
 #[tactic(auto, using(crate::proofs::RuleFacts::all_described, crate::proofs::RuleFacts::count_described))]
 fn is_one_region(parts: &[RegionPart]) -> bool
-    ensures { result ≡ (nat_le (length (map region_of parts.now)) 1 && list_all rules.is_region (map region_of parts.now)) }
+    ensures { result ≡ (nat_le (length (map region_of parts.now)) 1
+        && list_all rules.is_region (map region_of parts.now)) }
 {
     if parts.len() > 1 {
         return false;
