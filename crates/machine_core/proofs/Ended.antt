@@ -1,5 +1,5 @@
 -- When a history of the first form is complete, and how long it can be.
-use Rattle.std.proofs.Common.{ℕ, ◌+◌, ◌<◌, ◌≤◌, ◌≡◌, zero, suc, true, List, [], ◌∷◌, length, reverse, drop, Option, Some, None, arith, refl, sym, ap, ◌∙◌, subst, add-one}
+use Rattle.std.proofs.Common.{ℕ, ◌<◌, ◌≤◌, ◌≡◌, zero, suc, true, List, [], ◌∷◌, length, reverse, drop, Option, None, arith, refl, ap, ◌∙◌, add-one}
 use Rattle.std.proofs.lemmas.List.{length-reverse}
 use Rattle.acpi_regs.specs.declared.actor.Actor.{Actor}
 use Rattle.acpi_regs.specs.declared.actor.Actor.TheVariants as actor

@@ -1,11 +1,10 @@
 -- What a board keeps stays true when an allowed entry is appended.
-use Rattle.std.proofs.Common.{ℕ, ◌+◌, ◌<◌, ◌≤◌, ◌≡◌, inl, inr, zero, suc, Bool, true, false, ◌&&◌, eqb, cond, List, [], ◌∷◌, ◌++◌, length, reverse, take, drop, get_or, set, slice_get, slice_index, arith, refl, sym, ap, ◌∙◌, subst, add-one, length-append}
+use Rattle.std.proofs.Common.{ℕ, ◌+◌, ◌<◌, ◌≡◌, inl, inr, true, ◌&&◌, eqb, cond, List, [], ◌∷◌, ◌++◌, length, reverse, take, drop, get_or, slice_get, arith, refl, sym, ap, ◌∙◌, subst, add-one, length-append}
 use Rattle.std.proofs.Math.ListN.{length-set, drop_of_length-le}
 use Rattle.std.proofs.lemmas.List.{take_all, append-nil, reverse-append, get_or-set_same, get_or-set_other}
-use Rattle.std.proofs.lemmas.Bool.{and_parts, cases_eq, eqb-true, eq-eqb, ne_eqb, and_right}
+use Rattle.std.proofs.lemmas.Bool.{cases_eq, eq-eqb, ne_eqb, and_right}
 use Rattle.acpi_regs.specs.declared.actor.Actor.{Actor}
 use Rattle.acpi_regs.specs.declared.actor.Actor.TheVariants as actor
-use Rattle.acpi_regs.specs.declared.entry.Cell.{Cell}
 use Rattle.acpi_regs.specs.declared.entry.Deed.{Deed}
 use Rattle.acpi_regs.specs.declared.entry.Deed.TheVariants as deed
 use Rattle.acpi_regs.specs.declared.entry.Entry.{Entry}
@@ -16,7 +15,7 @@ use Rattle.machine_desc.specs.Rules.{is_machine, cells_in}
 use Rattle.machine_core.specs.Board.{IsKept, bytes_after, WritesWithin}
 use Rattle.machine_core.specs.Legal.{Allowed, Legal, LegalPast}
 use Rattle.machine_core.specs.Scripts.{plan_after, plan_left}
-use Rattle.machine_core.specs.Values.{value, value_after, deed_access, same_cell}
+use Rattle.machine_core.specs.Values.{value_after, deed_access}
 use Rattle.machine_core.proofs.Steps.{Passes, IsInside, allowed_passes}
 
 -- the newest entry of a history is allowed

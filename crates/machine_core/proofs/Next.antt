@@ -1,5 +1,5 @@
 -- The entry that an act asks for is allowed.
-use Rattle.std.proofs.Common.{ℕ, ◌<◌, ◌≡◌, Bool, true, false, ◌&&◌, eqb, ltb, cond, List, [], ◌∷◌, ◌++◌, length, reverse, Option, Some, None, arith, refl, sym, ap, ◌∙◌, subst}
+use Rattle.std.proofs.Common.{◌≡◌, Bool, true, ltb, List, [], ◌∷◌, ◌++◌, length, reverse, Some, None, arith, refl, sym, ap, subst}
 use Rattle.std.proofs.lemmas.List.{reverse-append}
 use Rattle.std.proofs.lemmas.Bool.{and_from, eq-eqb, lt-ltb}
 use Rattle.acpi_regs.specs.declared.actor.Actor.TheVariants as actor
@@ -11,7 +11,7 @@ use Rattle.machine_desc.specs.declared.script.Act.{Act}
 use Rattle.machine_desc.specs.declared.script.Act.TheVariants as act
 use Rattle.machine_desc.specs.declared.script.Op.{Op}
 use Rattle.machine_desc.specs.Machine.{MachineData}
-use Rattle.machine_desc.specs.Plan.{End, plan, next_act}
+use Rattle.machine_desc.specs.Plan.{End, next_act}
 use Rattle.machine_core.specs.declared.rule.LogRule.{LogRule}
 use Rattle.machine_core.specs.Legal.{Allowed, Legal, LegalPast, conditions, first_failing, runs_scripts, is_read, is_write}
 use Rattle.machine_core.specs.Scripts.{next_of, first_plan}

@@ -1,5 +1,5 @@
 -- In a legal history each script makes its acts once and in order, each read gives the last byte written, and the weight bounds the length.
-use Rattle.std.proofs.Common.{ℕ, ◌+◌, ◌<◌, ◌≤◌, ◌≡◌, zero, suc, Bool, true, false, ◌&&◌, ◌==◌, cond, List, [], ◌∷◌, ◌++◌, length, reverse, take, drop, Some, None, Option, slice_get, filter, arith, refl, sym, ap, ◌∙◌, subst, length-append, append_assoc, add-one, IsTrue}
+use Rattle.std.proofs.Common.{ℕ, ◌≡◌, Bool, true, false, List, [], ◌∷◌, ◌++◌, reverse, Some, Option, refl, sym, ap, ◌∙◌, subst, append_assoc}
 use Rattle.std.specs.List.{filter_map}
 use Rattle.std.proofs.lemmas.List.{append-nil, reverse-reverse}
 use Rattle.std.proofs.lemmas.List.Elements.{filter-append, filter_map-append}
@@ -19,7 +19,7 @@ use Rattle.machine_desc.specs.Plan.{Plan, End, Do, next_act, acts_of}
 use Rattle.machine_core.specs.Complete.{Complete, ScriptsOnce, ReadsLast}
 use Rattle.machine_core.specs.Legal.{Allowed, LegalPast, Legal, conditions, is_read, is_write}
 use Rattle.machine_core.specs.Scripts.{first_plan, plan_left, plan_after, act_passed, byte_answered, acts_passed, answers}
-use Rattle.machine_core.specs.Values.{Access, access_of, deed_access, same_cell, value}
+use Rattle.machine_core.specs.Values.{Access, deed_access, same_cell, value}
 use Rattle.machine_core.proofs.Each.{reverse-cons, legal-each}
 use Rattle.machine_core.proofs.Steps.{first_failing-none}
 

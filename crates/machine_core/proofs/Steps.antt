@@ -1,5 +1,5 @@
 -- What one allowed entry does to the pieces of state that a board keeps.
-use Rattle.std.proofs.Common.{ℕ, ◌+◌, ◌/◌, ◌%◌, ◌<◌, ◌≤◌, ◌≡◌, ◌⊎◌, inl, inr, zero, suc, Bool, true, false, ◌&&◌, ◌==◌, eqb, List, [], ◌∷◌, length, drop, get_or, set, Option, Some, None, option_map, slice_get, cond, arith, refl, sym, ap, ◌∙◌, subst}
+use Rattle.std.proofs.Common.{ℕ, ◌/◌, ◌%◌, ◌<◌, ◌≡◌, ◌⊎◌, inl, inr, zero, suc, Bool, true, false, List, [], ◌∷◌, length, drop, get_or, Option, Some, None, option_map, slice_get, cond, arith, refl, sym, ap, ◌∙◌, subst}
 use Rattle.std.proofs.Math.Seq.{drop-nil}
 use Rattle.std.proofs.lemmas.Bool.{and_parts, eqb-true, ltb-true}
 use Rattle.std.proofs.lemmas.Option.{slice_get-get_or, slice_get_within}
@@ -19,7 +19,7 @@ use Rattle.machine_desc.specs.Machine.{MachineData, script_of}
 use Rattle.machine_desc.specs.Parts.{cell_of}
 use Rattle.machine_desc.specs.Plan.{Plan, End, Do, plan, plan_op, next_act, read_field, write_field}
 use Rattle.machine_desc.specs.Rules.{is_machine, is_op, cells_in}
-use Rattle.machine_desc.proofs.RuleFacts.{InFirst, field_in_first, field_or_in_first, cells_within, op_named, script_of-later}
+use Rattle.machine_desc.proofs.RuleFacts.{field_in_first, field_or_in_first, cells_within, op_named, script_of-later}
 use Rattle.machine_core.specs.declared.rule.LogRule.{LogRule}
 use Rattle.machine_core.specs.Board.{IsCell}
 use Rattle.machine_core.specs.Legal.{Allowed, conditions, first_failing, is_read, is_write}

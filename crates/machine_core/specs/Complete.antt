@@ -1,5 +1,5 @@
 -- Histories that leave nothing open, and what a reader of a log may conclude from one.
-use Rattle.std.specs.Prelude.{ℕ, ◌<◌, ◌≡◌, Bool, false, List, length, reverse, Option, Some, None, slice_get}
+use Rattle.std.specs.Prelude.{ℕ, ◌<◌, ◌≡◌, false, List, length, reverse, Some, None, slice_get}
 use Rattle.acpi_regs.specs.declared.actor.Actor.TheVariants as actor
 use Rattle.acpi_regs.specs.declared.actor.Side.TheVariants as side
 use Rattle.acpi_regs.specs.declared.entry.Entry.{Entry}

@@ -1,7 +1,7 @@
 -- Which entries are allowed, and which histories are legal.
 --
 -- The table has a row for each kind of entry: its conditions in order, each under the name that a refusal gives it.
-use Rattle.std.specs.Prelude.{ℕ, ◌<◌, ◌≡◌, Bool, true, false, ◌==◌, ◌&&◌, nat_lt, List, [], ◌∷◌, length, reverse, Option, Some, None, if◌then◌else◌, slice_get}
+use Rattle.std.specs.Prelude.{ℕ, ◌≡◌, Bool, false, ◌==◌, ◌&&◌, nat_lt, List, [], ◌∷◌, length, reverse, Option, Some, None, if◌then◌else◌, slice_get}
 use Rattle.acpi_regs.specs.declared.actor.Actor.{Actor}
 use Rattle.acpi_regs.specs.declared.actor.Actor.TheVariants as actor
 use Rattle.acpi_regs.specs.declared.entry.Cell.{Cell}

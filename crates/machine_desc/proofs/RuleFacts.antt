@@ -60,7 +60,7 @@ pub record InFirst (m : MachineData) (field : FieldPart) : Type 0 where
 pub field_in_first : (m : MachineData) (f : ℕ) (field : FieldPart) → is_machine m ≡ true → slice_get m.fields f ≡ Some field → InFirst m field
 field_in_first m f field ok at =
     let rule = list_all-slice_get (is_field (cells_in (slice_get m.regions 0))) m.fields f field (ruled m ok).fields at in
-    let fits = leb-true (field.bit + 8) (8 * cells_in (slice_get m.regions 0)) (and_parts _ _ rule).1 in
+    let fits : field.bit + 8 ≤ 8 * cells_in (slice_get m.regions 0) = leb-true (field.bit + 8) (8 * cells_in (slice_get m.regions 0)) (and_parts _ _ rule).1 in
     let first = eqb-true field.region 0 (and_parts _ _ (and_parts _ _ (and_parts _ _ (and_parts _ _ rule).0).0).0).0 in
     record { region = first; inside = omega arith }
 

@@ -1,5 +1,5 @@
-use Rattle.std.proofs.Common.{◌≡◌, ◌<◌, length, arith, sym, ap, ◌∙◌, subst}
-use Rattle.machine_core.specs.Board.{IsKept, bytes_after}
+use Rattle.std.proofs.Common.{length, arith, ap, ◌∙◌}
+use Rattle.machine_core.specs.Board.{bytes_after}
 use Rattle.machine_core.proofs.Kept.{kept_passes, kept_after, writes_within, take-whole, length-bytes_after}
 use Rattle.machine_core.proofs.board.Board.apply.Goals as goal
 

@@ -1,7 +1,7 @@
-use Rattle.std.proofs.Common.{◌≡◌, ◌++◌, [], ◌∷◌, Bool, true, false, not, Option, Some, None, is_some, IsTrue, reverse, refl, sym, ◌∙◌, subst}
+use Rattle.std.proofs.Common.{◌≡◌, [], ◌∷◌, Bool, true, false, not, Option, Some, None, is_some, IsTrue, refl, sym, ◌∙◌, subst}
 use Rattle.std.proofs.lemmas.List.{reverse-append}
 use Rattle.machine_core.specs.declared.rule.LogRule.{LogRule}
-use Rattle.machine_core.specs.Legal.{Legal, LegalPast}
+use Rattle.machine_core.specs.Legal.{LegalPast}
 use Rattle.machine_core.proofs.Kept.{newest_allowed}
 use Rattle.machine_core.proofs.board.Board.can.Goals as goal
 

@@ -1,6 +1,5 @@
-use Rattle.std.proofs.Common.{◌≡◌, Some, length, slice_get, ap, sym, ◌∙◌, refl, arith}
+use Rattle.std.proofs.Common.{length, slice_get, ap, sym, ◌∙◌, refl, arith}
 use Rattle.std.proofs.lemmas.Option.{slice_get_read}
-use Rattle.machine_desc.specs.Machine.{script_of}
 use Rattle.machine_desc.proofs.RuleFacts.{op_named, weight_of-script}
 use Rattle.machine_core.proofs.board.Board.first_act.Goals as goal
 
