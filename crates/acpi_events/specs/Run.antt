@@ -1,9 +1,8 @@
 -- What a call of the program did, by the status that it answered.
-use Rattle.std.specs.Prelude.{◌≡◌, ℕ, ◌+◌, ◌≤◌, ◌⊎◌, List, [], ◌∷◌, ◌++◌, length, map, codes, Option, Some, None, String, string_bytes}
+use Rattle.std.specs.Prelude.{◌≡◌, ℕ, ◌+◌, ◌≤◌, ◌⊎◌, List, [], ◌∷◌, length, map, codes, Option, Some, None, String, string_bytes}
 use Rattle.std.specs.Io.KnownBytes.{Appends, Consumes, IsAtEnd}
 use Rattle.std.specs.declared.alloc.Global.{Global}
 use Rattle.serde_json.specs.Data.{Data}
-use Rattle.acpi_io.specs.Faults.{Rose}
 use Rattle.acpi_io.specs.Sink.{AddsFront}
 use Rattle.acpi_io.specs.Source.{TakesExactly, TakesUpTo}
 use Rattle.acpi_regs.specs.declared.entry.Entry.{Entry}

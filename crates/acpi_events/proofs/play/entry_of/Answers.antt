@@ -1,4 +1,4 @@
-use Rattle.std.proofs.Common.{reverse, sym, ap, subst}
+use Rattle.std.proofs.Common.{reverse, sym, subst}
 use Rattle.acpi_regs.specs.declared.actor.Actor.TheVariants as actor
 use Rattle.acpi_regs.specs.declared.entry.Deed.TheVariants as deed
 use Rattle.machine_desc.specs.declared.script.Act.TheVariants as act

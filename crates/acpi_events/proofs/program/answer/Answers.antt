@@ -1,5 +1,4 @@
 use Rattle.std.proofs.Common.{refl}
-use Rattle.acpi_events.specs.Run.{FromBytes}
 use Rattle.acpi_events.proofs.RunLemmas.{answers_from}
 use Rattle.acpi_events.proofs.program.answer.Goals as goal
 

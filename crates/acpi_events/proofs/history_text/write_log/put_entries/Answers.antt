@@ -1,4 +1,4 @@
-use Rattle.std.proofs.Common.{◌∙◌, sym, arith}
+use Rattle.std.proofs.Common.{◌∙◌, arith}
 use Rattle.std.proofs.lemmas.Result.{err_from_is_err_and}
 use Rattle.acpi_events.proofs.Writing.{entry_put, entry_failed}
 use Rattle.acpi_events.proofs.history_text.write_log.put_entries.Goals as goal

@@ -1,4 +1,4 @@
-use Rattle.std.proofs.Common.{◌≡◌, ◌≤◌, ◌++◌, take, length}
+use Rattle.std.proofs.Common.{◌≤◌, ◌++◌, take}
 use Rattle.acpi_events.specs.Text.{entry_lines}
 use Rattle.acpi_events.specs.Written.{Leaves}
 use Rattle.acpi_events.proofs.history_text.write_log.put_entries.Given as goal

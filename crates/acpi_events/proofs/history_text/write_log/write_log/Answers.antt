@@ -1,8 +1,7 @@
-use Rattle.std.proofs.Common.{List, ℕ, [], ◌++◌, length, ap, sym, ◌∙◌, subst}
+use Rattle.std.proofs.Common.{List, ℕ, ◌++◌, length, ap, ◌∙◌, subst}
 use Rattle.std.proofs.lemmas.Result.{err_from_is_err_and}
 use Rattle.acpi_io.specs.Sink.{AddsFront, WritesAll}
 use Rattle.acpi_events.specs.Text.{machine_line, entry_lines, rest_line, log_text}
-use Rattle.acpi_events.specs.Written.{GoesOn}
 use Rattle.acpi_events.proofs.Writing.{then_Leaves, then_fails, fails_before, Leaves-WritesAll}
 use Rattle.acpi_events.proofs.history_text.write_log.write_log.Goals as goal
 

@@ -1,4 +1,4 @@
-use Rattle.std.proofs.Common.{take, drop, arith}
+use Rattle.std.proofs.Common.{arith}
 use Rattle.std.proofs.lemmas.Result.{err_from_is_err_and}
 use Rattle.acpi_events.proofs.Writing.{part_put, part_failed}
 use Rattle.acpi_events.proofs.history_text.pieces.Pieces.put.Goals as goal
