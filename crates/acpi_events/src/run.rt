@@ -1,4 +1,4 @@
-ghost use Rattle.std.specs.Prelude.{◌≡◌, ◌≤◌, ℕ, List, OnErr, IfOk, IsErrOf, [], length};
+ghost use Rattle.std.specs.Prelude.{◌≡◌, ◌≤◌, List, OnErr, IfOk, IsErrOf};
 ghost use Rattle.serde_json.specs.Data.{Data};
 ghost use Rattle.acpi_regs.specs.declared.entry.Entry.{Entry};
 ghost use Rattle.acpi_io.specs.Faults.{Rose};

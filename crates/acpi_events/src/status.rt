@@ -1,8 +1,6 @@
 ghost use Rattle.std.specs.Prelude.{◌≡◌};
 ghost use Rattle.acpi_events.specs.Run.{code_of};
 
-use crate::machine_reader::ReaderFault;
-use acpi_io::ReadAllFault;
 use std::fmt;
 
 /// What a call of the program came to.

@@ -118,6 +118,17 @@ impl Board {
         self.refusal(entry).is_none()
     }
 
+    /// The first condition of the table of entries that the entry fails. `None` exactly where [`Board::can`] is true.
+    pub fn refusal(&self, entry: &Entry) -> Option<LogRule>
+        ensures { result ≡ refusal self.now.machine (reverse self.now.entries) entry.now }
+    {
+        match entry.deed {
+            Deed::Read(cell, byte) => self.read_refusal(entry.actor, cell, byte),
+            Deed::Write(cell, byte) => self.write_refusal(entry.actor, cell, byte),
+            _ => Some(LogRule::Actor),
+        }
+    }
+
     /// Appends an entry to the journal.
     pub fn apply(&mut self, entry: Entry)
         requires { Legal self.old.machine (self.old.entries ++ entry ∷ []) }
@@ -146,17 +157,6 @@ impl Board {
         self.machine.law_rules();
         let op = script::first_script(&self.machine).get(self.passed)?;
         Some(script::act_of(&self.machine, op))
-    }
-
-    /// The first condition of the table of entries that the entry fails; `None` where all hold.
-    fn refusal(&self, entry: &Entry) -> Option<LogRule>
-        ensures { result ≡ refusal self.now.machine (reverse self.now.entries) entry.now }
-    {
-        match entry.deed {
-            Deed::Read(cell, byte) => self.read_refusal(entry.actor, cell, byte),
-            Deed::Write(cell, byte) => self.write_refusal(entry.actor, cell, byte),
-            _ => Some(LogRule::Actor),
-        }
     }
 
     fn read_refusal(&self, actor: Actor, cell: Cell, byte: u8) -> Option<LogRule>

@@ -1,5 +1,5 @@
 //! A board of a small machine, from an empty journal to the end of its script.
-use crate::Board;
+use crate::{Board, LogRule};
 use acpi_regs::{Actor, Cell, Deed, Entry};
 use machine_desc::{
     Act, Cells, FieldPart, Machine, MachineParts, Op, RegionKind, RegionPart, Script, UpdateRule,
@@ -17,12 +17,13 @@ const SECOND: Cell = Cell {
     offset: 1,
 };
 
+fn by(actor: Actor, deed: Deed) -> Entry {
+    Entry { actor, deed }
+}
+
 /// What the first firmware does.
 fn by_firmware(deed: Deed) -> Entry {
-    Entry {
-        actor: Actor::Firmware(0),
-        deed,
-    }
+    by(Actor::Firmware(0), deed)
 }
 
 /// A board of two cells, 7 and 0, with a script that writes 90 to the first cell and reads it.
@@ -96,42 +97,37 @@ fn no_other_entry_than_the_next_may_be_made(rt: HostRuntime) -> Result<(), Fail>
     let mut board = small_board(rt.alloc())?;
     let write = by_firmware(Deed::Write(FIRST, 90));
     let not_first = [
-        by_firmware(Deed::Write(FIRST, 91)),
-        by_firmware(Deed::Write(SECOND, 90)),
-        by_firmware(Deed::Read(FIRST, 7)),
-        by_firmware(Deed::Seek),
-        Entry {
-            actor: Actor::Firmware(1),
-            ..write
-        },
-        Entry {
-            actor: Actor::Worker(0),
-            ..write
-        },
+        (by_firmware(Deed::Write(FIRST, 91)), LogRule::Next),
+        (by_firmware(Deed::Write(SECOND, 90)), LogRule::Next),
+        (by_firmware(Deed::Read(FIRST, 7)), LogRule::Next),
+        (by_firmware(Deed::Seek), LogRule::Actor),
+        (
+            by(Actor::Firmware(1), Deed::Write(FIRST, 90)),
+            LogRule::Actor,
+        ),
+        (by(Actor::Worker(0), Deed::Write(FIRST, 90)), LogRule::Next),
     ];
-    for entry in not_first {
+    for (entry, rule) in not_first {
         assert!(rt; !board.can(&entry));
+        assert_eq!(rt; board.refusal(&entry), Some(rule));
     }
     assert!(rt; board.can(&write));
+    assert_eq!(rt; board.refusal(&write), None);
     board.apply(write);
+    let elsewhere = Cell {
+        region: 1,
+        offset: 0,
+    };
     let not_second = [
-        write,
-        by_firmware(Deed::Read(FIRST, 7)),
-        by_firmware(Deed::Read(SECOND, 0)),
-        by_firmware(Deed::Read(
-            Cell {
-                region: 1,
-                offset: 0,
-            },
-            90,
-        )),
-        Entry {
-            actor: Actor::Ec,
-            deed: Deed::Read(FIRST, 90),
-        },
+        (write, LogRule::Next),
+        (by_firmware(Deed::Read(FIRST, 7)), LogRule::Value),
+        (by_firmware(Deed::Read(SECOND, 0)), LogRule::Next),
+        (by_firmware(Deed::Read(elsewhere, 90)), LogRule::Next),
+        (by(Actor::Ec, Deed::Read(FIRST, 90)), LogRule::Actor),
     ];
-    for entry in not_second {
+    for (entry, rule) in not_second {
         assert!(rt; !board.can(&entry));
+        assert_eq!(rt; board.refusal(&entry), Some(rule));
     }
     Ok(())
 }

@@ -1,4 +1,4 @@
-ghost use Rattle.std.specs.Prelude.{◌≡◌, ◌+◌, ◌<◌, ◌≤◌, [], ◌∷◌, ◌++◌, List, ℕ, length, codes, decimal};
+ghost use Rattle.std.specs.Prelude.{◌≡◌, ◌+◌, ◌<◌, ◌≤◌, [], ◌∷◌, ◌++◌, List, ℕ, length, decimal};
 ghost use Rattle.acpi_events.specs.Text.{digit_text, byte_text, cell_text, actor_text, deed_text, entry_line, rest_line};
 
 use acpi_regs::{Actor, Cell, Deed, Entry};

@@ -1,4 +1,4 @@
-ghost use Rattle.std.specs.Prelude.{◌≡◌, ◌≤◌, ◌++◌, OnErr};
+ghost use Rattle.std.specs.Prelude.{◌≤◌, ◌++◌, OnErr};
 ghost use Rattle.acpi_io.specs.Faults.{Rose};
 ghost use Rattle.acpi_io.specs.Sink.{WritesAll};
 ghost use Rattle.acpi_events.specs.Text.{entry_lines, log_text, machine_line};
