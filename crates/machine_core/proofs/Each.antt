@@ -13,7 +13,7 @@ pub reverse-cons : {X : Type 0} (x : X) (xs : List X) → reverse (x ∷ xs) ≡
 reverse-cons x xs = reverse_onto xs x []
 
 -- an element of a list with one more at its end
-slice_get-push : {X : Type 0} (xs : List X) (y : X) (i : ℕ) (x : X) → slice_get (xs ++ y ∷ []) i ≡ Some x → ((i < length xs) × (slice_get xs i ≡ Some x)) ⊎ ((i ≡ length xs) × (y ≡ x))
+pub slice_get-push : {X : Type 0} (xs : List X) (y : X) (i : ℕ) (x : X) → slice_get (xs ++ y ∷ []) i ≡ Some x → ((i < length xs) × (slice_get xs i ≡ Some x)) ⊎ ((i ≡ length xs) × (y ≡ x))
 slice_get-push [] y zero x at = inr (refl, cc)
 slice_get-push [] y (suc i) x at = cc
 slice_get-push (z ∷ xs) y zero x at = inl (omega arith, at)
@@ -23,12 +23,12 @@ slice_get-push (z ∷ xs) y (suc i) x at =
       | inr last ↦ inr (omega (arith, last.0), last.1)
     ]
 
-slice_get-append_left : {X : Type 0} (xs ys : List X) (i : ℕ) (x : X) → slice_get xs i ≡ Some x → slice_get (xs ++ ys) i ≡ Some x
+pub slice_get-append_left : {X : Type 0} (xs ys : List X) (i : ℕ) (x : X) → slice_get xs i ≡ Some x → slice_get (xs ++ ys) i ≡ Some x
 slice_get-append_left [] ys i x at = cc
 slice_get-append_left (z ∷ xs) ys zero x at = at
 slice_get-append_left (z ∷ xs) ys (suc i) x at = slice_get-append_left xs ys i x at
 
-slice_get-seam : {X : Type 0} (xs : List X) (y : X) → slice_get (xs ++ y ∷ []) (length xs) ≡ Some y
+pub slice_get-seam : {X : Type 0} (xs : List X) (y : X) → slice_get (xs ++ y ∷ []) (length xs) ≡ Some y
 slice_get-seam [] y = refl
 slice_get-seam (x ∷ xs) y = slice_get-seam xs y
 

@@ -3,4 +3,5 @@ pub mod Ended
 pub mod Kept
 pub mod Next
 pub mod Once
+pub mod Sentences
 pub mod Steps

@@ -34,7 +34,7 @@ has_firmware m past next is = by_list m.firmware refl
         cc
     by_list (script ∷ scripts) has = rw has (lt-ltb 0 (length (script ∷ scripts)) (omega arith))
 
-same_cell-refl : (c : Cell) → same_cell c c ≡ true
+pub same_cell-refl : (c : Cell) → same_cell c c ≡ true
 same_cell-refl c = and_from _ _ (eq-eqb c.region c.region refl) (eq-eqb c.offset c.offset refl)
 
 -- what the first firmware does for its next act

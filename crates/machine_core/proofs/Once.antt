@@ -25,7 +25,7 @@ use Rattle.machine_core.proofs.Steps.{first_failing-none}
 
 -- ---- reads
 
-some-injective : {X : Type 0} (x y : X) → Some x ≡ Some y → x ≡ y
+pub some-injective : {X : Type 0} (x y : X) → Some x ≡ Some y → x ≡ y
 some-injective x y same = cc
 
 read_gives : (m : MachineData) (past : List Entry) (by : Actor) (d : Deed) (a : Access) → Allowed m past (record { actor = by; deed = d }) → deed_access by d ≡ Some a → a.writes ≡ false → a.byte ≡ value m past a.cell
@@ -53,7 +53,7 @@ same_actor-true _ _ same = cc
 abbrev cell_at : ℕ → ℕ → Cell
 cell_at region offset = record { region = region; offset = offset }
 
-same_cell-true : (c d : Cell) → same_cell c d ≡ true → c ≡ d
+pub same_cell-true : (c d : Cell) → same_cell c d ≡ true → c ≡ d
 same_cell-true c d same =
     let parts = and_parts _ _ same in
     ap (λ region. cell_at region c.offset) (eqb-true _ _ parts.0) ∙ ap (λ offset. cell_at d.region offset) (eqb-true _ _ parts.1)

@@ -1,11 +1,14 @@
 //! Laws over the definitions of this crate, each for every machine and history. A law is a function with nothing
 //! to do, whose contract says it.
 ghost use Rattle.std.specs.Prelude.{◌↔◌, ◌≤◌, List, length, IsTrue};
+ghost use Rattle.acpi_regs.specs.declared.actor.Actor.{Actor};
+ghost use Rattle.acpi_regs.specs.declared.entry.Cell.{Cell};
 ghost use Rattle.acpi_regs.specs.declared.entry.Entry.{Entry};
 ghost use Rattle.machine_desc.specs.Machine.{MachineData, weight_of};
 ghost use Rattle.machine_desc.specs.Rules.{is_machine};
 ghost use Rattle.machine_core.specs.Complete.{Complete, ReadsLast, ScriptsOnce};
 ghost use Rattle.machine_core.specs.Legal.{EachAllowed, Legal};
+ghost use Rattle.machine_core.specs.Sentences.{IsFirstLeft, IsLastByte};
 
 /// A history is legal exactly where each of its entries is allowed after those before it.
 pub fn law_legal_each()
@@ -29,4 +32,15 @@ pub fn law_scripts_once()
 pub fn law_weight()
     ensures { (m : MachineData) (history : List Entry)
         → IsTrue (is_machine m) → Legal m history → length history ≤ weight_of m }
+{}
+
+/// The value of a cell is the byte of the last write to it, else the description's.
+pub fn law_value_last()
+    ensures { (m : MachineData) (history : List Entry) (c : Cell) → IsLastByte m history c }
+{}
+
+/// In a legal history the next act of an actor is the first of its script's acts that its entries have not passed.
+pub fn law_next_act()
+    ensures { (m : MachineData) (history : List Entry) (a : Actor)
+        → Legal m history → IsFirstLeft m history a }
 {}
