@@ -1,4 +1,5 @@
 pub mod Actor
 pub mod Event
+pub mod Flags
 pub mod History
 pub mod Lock

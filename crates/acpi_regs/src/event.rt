@@ -38,3 +38,13 @@ pub enum Event {
     Fixed(Fixed),
     Gpe(u8),
 }
+
+/// An event that a description lists: with its handler's kind and how many references hold it enabled at first.
+#[derive(Clone, Copy, Debug, PartialEq, Eq)]
+pub struct Listed {
+    pub event: Event,
+    /// Whether the event is level-triggered, which only a GPE may be (ACPI 6.5, section 5.6.4.1).
+    pub level: bool,
+    /// The count with which the event starts. It is enabled while its count is above 0.
+    pub refs: u8,
+}

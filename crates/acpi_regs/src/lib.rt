@@ -9,11 +9,13 @@
 mod actor;
 mod entry;
 mod event;
+mod flags;
 mod memory;
 
 pub use actor::{Actor, Side};
 pub use entry::{Cell, Deed, Effect, Entry, HostMove, Request};
-pub use event::{Event, Fixed};
+pub use event::{Event, Fixed, Listed};
+pub use flags::{EcStatus, Pm1Bits};
 pub use memory::Memory;
 
 #[cfg(test)]
