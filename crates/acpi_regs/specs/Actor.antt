@@ -1,5 +1,7 @@
 -- Which actor is which, and the side on which it stands.
-use Rattle.std.specs.Prelude.{ℕ, Bool, true, false, ◌==◌, ◌&&◌, Option, Some, None}
+use Rattle.std.specs.Prelude.{◌≡◌, ℕ, Bool, true, false, ◌==◌, ◌&&◌, Option, Some, None}
+use Rattle.std.specs.Ordering.{nat_cmp, ordering_then}
+use Rattle.std.specs.declared.cmp.Ordering.{Ordering}
 use Rattle.acpi_regs.specs.declared.actor.Actor.{Actor}
 use Rattle.acpi_regs.specs.declared.actor.Actor.TheVariants as actor
 use Rattle.acpi_regs.specs.declared.actor.Side.{Side}
@@ -34,6 +36,10 @@ number_of (actor.Firmware k) = k
 -- the two are one actor
 abbrev pub same_actor : Actor → Actor → Bool
 same_actor a b = (kind_of a == kind_of b) && (number_of a == number_of b)
+
+-- actors come by kind, and those of one kind by number
+abbrev pub OrdersByKind : (Actor → Actor → Ordering) → Type 0
+OrdersByKind cmp = (a b : Actor) → cmp a b ≡ ordering_then (nat_cmp (kind_of a) (kind_of b)) (nat_cmp (number_of a) (number_of b))
 
 -- the actor stands on this side
 abbrev pub is_side : Side → Option Side → Bool

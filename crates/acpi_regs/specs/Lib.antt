@@ -1,5 +1,10 @@
 pub mod Actor
+pub mod Comparisons
 pub mod Event
 pub mod Flags
+pub mod Geometry
+pub mod GeometryParts
 pub mod History
 pub mod Lock
+pub mod Names
+pub mod Places

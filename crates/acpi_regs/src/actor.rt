@@ -2,7 +2,7 @@ ghost use Rattle.std.specs.Prelude.{◌≡◌};
 ghost use Rattle.acpi_regs.specs.Actor.{side_of};
 
 /// One of the two parties that share the Global Lock (ACPI 6.5, section 5.2.10.1).
-#[derive(Clone, Copy, Debug, PartialEq, Eq, PartialOrd, Ord)]
+#[derive(Clone, Copy, Debug, PartialEq, Eq)]
 pub enum Side {
     Os,
     Firmware,

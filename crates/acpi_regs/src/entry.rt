@@ -1,7 +1,7 @@
 use crate::{Actor, Event};
 
 /// A byte of a region, by the region's place in the description and the offset from its start.
-#[derive(Clone, Copy, Debug, PartialEq, Eq, PartialOrd, Ord)]
+#[derive(Clone, Copy, Debug, PartialEq, Eq)]
 pub struct Cell {
     pub region: u8,
     pub offset: u16,

@@ -1,5 +1,8 @@
-ghost use Rattle.std.specs.Prelude.{◌≡◌};
+ghost use Rattle.std.specs.Prelude.{◌≡◌, ◌^◌};
 ghost use Rattle.acpi_regs.specs.Event.{fixed_bit};
+ghost use Rattle.acpi_regs.specs.Flags.{pm1_bits};
+
+use crate::Pm1Bits;
 
 /// A fixed event of the PM1 registers (ACPI 6.5, section 4.8.3.1), in the order in which events are served.
 #[derive(Clone, Copy, Debug, PartialEq, Eq, PartialOrd, Ord)]
@@ -27,6 +30,19 @@ impl Fixed {
             Fixed::Pwr => 8,
             Fixed::Slp => 9,
             Fixed::Rtc => 10,
+        }
+    }
+
+    /// The same as a flag of the PM1 registers.
+    pub fn flag(self) -> Pm1Bits
+        ensures { pm1_bits result ≡ 2 ^ fixed_bit self }
+    {
+        match self {
+            Fixed::Tmr => Pm1Bits::TMR,
+            Fixed::Gbl => Pm1Bits::GBL,
+            Fixed::Pwr => Pm1Bits::PWRBTN,
+            Fixed::Slp => Pm1Bits::SLPBTN,
+            Fixed::Rtc => Pm1Bits::RTC,
         }
     }
 }

@@ -1,22 +1,31 @@
 //! Registers, names and journal entries of the ACPI event core.
 //!
-//! Every other crate speaks of a machine's history in the words of this one. It stands on nothing but `std`.
-//! An entry is what one actor did in one step, and a history is a list of entries, the oldest first.
-//! The contracts of the crates above cite the definitions in `specs/`: the entries of one actor, the owner
-//! and the seekers of the Global Lock, and the side on which an actor stands.
+//! Every other crate speaks of a machine in the words of this one: fixed events and the flags of the PM1 registers, GPEs
+//! and the blocks in which they stand, the names of methods, the status of the embedded controller, actors, and the
+//! entries of a history. It stands on `bitflags` alone. An entry is what one actor did in one step, and a history is a
+//! list of entries, the oldest first.
+//!
+//! The contracts cite the tables of ACPI in `specs/` (`Event`, `Geometry`, `Names`), and the crates above cite the
+//! definitions of histories there: the entries of one actor, the owner and the seekers of the Global Lock, and the side
+//! on which an actor stands. [`laws`] has what follows from the definitions: `==` and the orders say what they seem to.
 #![tactic(auto)]
 
 mod actor;
 mod entry;
 mod event;
 mod flags;
+mod geometry;
+pub mod laws;
 mod memory;
+mod name;
 
 pub use actor::{Actor, Side};
 pub use entry::{Cell, Deed, Effect, Entry, HostMove, Request};
 pub use event::{Event, Fixed, Listed};
 pub use flags::{EcStatus, Pm1Bits};
+pub use geometry::{BadGeometry, GeometryField, GpeGeometry, GpePlace};
 pub use memory::Memory;
+pub use name::{MethodName, NotAName};
 
 #[cfg(test)]
 mod tests;

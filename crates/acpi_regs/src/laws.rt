@@ -1,0 +1,82 @@
+//! Laws of the types and definitions of this crate: facts for the proofs of the crates above, which cost nothing to
+//! call.
+ghost use Rattle.acpi_regs.specs.Actor.{OrdersByKind, same_actor};
+ghost use Rattle.acpi_regs.specs.Comparisons.{IsExact, OrdersBy};
+ghost use Rattle.acpi_regs.specs.Event.{event_rank, fixed_rank, same_event};
+ghost use Rattle.acpi_regs.specs.Names.{SpellsNames};
+ghost use Rattle.acpi_regs.specs.Places.{PlacesEvents};
+ghost use Rattle.acpi_regs.specs.contracts.actor.SidePartialEq.TheImpl as side_eq;
+ghost use Rattle.acpi_regs.specs.contracts.actor.ActorPartialEq.TheImpl as actor_eq;
+ghost use Rattle.acpi_regs.specs.contracts.event.FixedPartialEq.TheImpl as fixed_eq;
+ghost use Rattle.acpi_regs.specs.contracts.event.EventPartialEq.TheImpl as event_eq;
+ghost use Rattle.acpi_regs.specs.contracts.event.ListedPartialEq.TheImpl as listed_eq;
+ghost use Rattle.acpi_regs.specs.contracts.entry.CellPartialEq.TheImpl as cell_eq;
+ghost use Rattle.acpi_regs.specs.contracts.entry.RequestPartialEq.TheImpl as request_eq;
+ghost use Rattle.acpi_regs.specs.contracts.entry.HostMovePartialEq.TheImpl as host_move_eq;
+ghost use Rattle.acpi_regs.specs.contracts.entry.EffectPartialEq.TheImpl as effect_eq;
+ghost use Rattle.acpi_regs.specs.contracts.entry.DeedPartialEq.TheImpl as deed_eq;
+ghost use Rattle.acpi_regs.specs.contracts.entry.EntryPartialEq.TheImpl as entry_eq;
+ghost use Rattle.acpi_regs.specs.contracts.geometry.GeometryFieldPartialEq.TheImpl as geometry_field_eq;
+ghost use Rattle.acpi_regs.specs.contracts.geometry.BadGeometryPartialEq.TheImpl as bad_geometry_eq;
+ghost use Rattle.acpi_regs.specs.contracts.geometry.GpePlacePartialEq.TheImpl as gpe_place_eq;
+ghost use Rattle.acpi_regs.specs.contracts.name.MethodNamePartialEq.TheImpl as method_name_eq;
+ghost use Rattle.acpi_regs.specs.contracts.name.NotANamePartialEq.TheImpl as not_a_name_eq;
+ghost use Rattle.acpi_regs.specs.contracts.memory.MemoryPartialEq.TheImpl as memory_eq;
+ghost use Rattle.acpi_regs.specs.contracts.flags.Pm1BitsPartialEq.TheImpl as pm1_bits_eq;
+ghost use Rattle.acpi_regs.specs.contracts.flags.EcStatusPartialEq.TheImpl as ec_status_eq;
+ghost use Rattle.acpi_regs.specs.contracts.event.FixedOrd.TheImpl as fixed_ord;
+ghost use Rattle.acpi_regs.specs.contracts.event.EventOrd.TheImpl as event_ord;
+ghost use Rattle.acpi_regs.specs.contracts.actor.ActorOrd.TheImpl as actor_ord;
+
+use crate::{
+    Actor, BadGeometry, Cell, Deed, EcStatus, Effect, Entry, Event, Fixed, GeometryField, GpePlace,
+    HostMove, Listed, Memory, MethodName, NotAName, Pm1Bits, Request, Side,
+};
+
+/// Two values are `==` exactly where they are the same.
+pub fn law_equality()
+    ensures side { IsExact Side (side_eq.ghosts).eq }
+    ensures actor { IsExact Actor (actor_eq.ghosts).eq }
+    ensures fixed { IsExact Fixed (fixed_eq.ghosts).eq }
+    ensures event { IsExact Event (event_eq.ghosts).eq }
+    ensures listed { IsExact Listed (listed_eq.ghosts).eq }
+    ensures cell { IsExact Cell (cell_eq.ghosts).eq }
+    ensures request { IsExact Request (request_eq.ghosts).eq }
+    ensures host_move { IsExact HostMove (host_move_eq.ghosts).eq }
+    ensures effect { IsExact Effect (effect_eq.ghosts).eq }
+    ensures deed { IsExact Deed (deed_eq.ghosts).eq }
+    ensures entry { IsExact Entry (entry_eq.ghosts).eq }
+    ensures geometry_field { IsExact GeometryField (geometry_field_eq.ghosts).eq }
+    ensures bad_geometry { IsExact BadGeometry (bad_geometry_eq.ghosts).eq }
+    ensures gpe_place { IsExact GpePlace (gpe_place_eq.ghosts).eq }
+    ensures method_name { IsExact MethodName (method_name_eq.ghosts).eq }
+    ensures not_a_name { IsExact NotAName (not_a_name_eq.ghosts).eq }
+    ensures memory { IsExact Memory (memory_eq.ghosts).eq }
+    ensures pm1_bits { IsExact Pm1Bits (pm1_bits_eq.ghosts).eq }
+    ensures ec_status { IsExact EcStatus (ec_status_eq.ghosts).eq }
+{}
+
+/// The words in which definitions compare two events or two actors are exact too.
+pub fn law_same()
+    ensures event { IsExact Event same_event }
+    ensures actor { IsExact Actor same_actor }
+{}
+
+/// Fixed events come first, in the order of the PM1 bits that are listed with them, then GPEs by number. Actors come by
+/// kind, in the order in which [`Actor`] lists them, then by number.
+pub fn law_order()
+    ensures fixed { OrdersBy Fixed fixed_rank (fixed_ord.ghosts).cmp }
+    ensures event { OrdersBy Event event_rank (event_ord.ghosts).cmp }
+    ensures actor { OrdersByKind (actor_ord.ghosts).cmp }
+{}
+
+/// A text spells a name exactly where it is that name's spelling. So no two names have one, and to parse what was
+/// spelled gives the name.
+pub fn law_names()
+    ensures { SpellsNames }
+{}
+
+/// The place of a GPE is a bit of its block's status register, and the event that stands there is that GPE.
+pub fn law_places()
+    ensures { PlacesEvents }
+{}
