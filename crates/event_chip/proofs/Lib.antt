@@ -1,0 +1,2 @@
+mod RankBits
+mod Slots

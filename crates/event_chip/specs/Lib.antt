@@ -1,0 +1,4 @@
+pub mod Chip
+pub mod Kept
+pub mod Ranks
+pub mod State

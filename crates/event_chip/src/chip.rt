@@ -1,0 +1,254 @@
+ghost use Rattle.std.specs.Prelude.{◌≡◌, ◌<◌, ◌||◌, IfOk, ℕ, false, if◌then◌else◌, length, slice_index_or};
+ghost use Rattle.acpi_regs.specs.Event.{event_rank, is_gbl, same_event};
+ghost use Rattle.event_chip.specs.Chip.{always, first_slot, is_controllers, listing, no_slot, slot_of, slot_or};
+ghost use Rattle.event_chip.specs.Kept.{IsQuiet};
+
+use crate::ranks::Ranks;
+use crate::{EventKind, Slot, Touch};
+use acpi_regs::{Event, Fixed, Listed, Memory};
+use std::alloc::{AllocError, Global};
+use std::marker::Model;
+
+/// How many events there can be: five fixed ones, and GPEs 0 to 255.
+const EVENTS: usize = 261;
+
+/// The registers of every event of a machine.
+#[derive(Drop)]
+pub struct EventChip {
+    slots: Vec<Slot>,
+    // The places, in the order of events, of those that are pending.
+    pending: Ranks,
+}
+
+impl Model for EventChip {
+    ghost use Rattle.std.specs.Prelude.{List};
+    ghost use Rattle.event_chip.specs.Kept.{IsKept};
+    ghost use Rattle.event_chip.specs.declared.state.Slot.{Slot};
+
+    ghost Value = { List Slot };
+
+    ghost view = { λ c. c.slots.items };
+
+    ghost invariant = { λ c. IsKept c.slots.items c.pending.words };
+}
+
+impl EventChip {
+    ghost use Rattle.std.specs.Prelude.{true};
+    ghost use Rattle.event_chip.specs.Chip.{IsFirst, IsKnown, IsLevel, IsListed, Touches, pends};
+    ghost use Rattle.event_chip.specs.State.{is_parked};
+    ghost use Rattle.event_chip.specs.declared.state.Touch.TheVariants as touch;
+
+    /// The chip of a machine that lists these events, with the controller's event where it has a controller. Nothing
+    /// has happened yet. Where an event is listed twice the first counts; the Global Lock's event and the
+    /// controller's are always enabled, listed or not.
+    pub fn new(
+        alloc: Global,
+        listed: &[Listed],
+        controller: Option<Event>,
+    ) -> Result<EventChip, Memory>
+        ensures { IfOk result (λ chip. (n : Event) → slot_of chip n ≡ first_slot listed.now controller n) }
+    {
+        let slots = first_slots(alloc, listed, controller)?;
+        Ok(EventChip { slots, pending: Ranks::new() })
+    }
+
+    /// What is known of an event, and its registers.
+    pub fn slot(&self, event: Event) -> Slot
+        ensures { result ≡ slot_of self.now event }
+    {
+        self.slots[rank_of(event)]
+    }
+
+    /// Touches an event.
+    fn touch(&mut self, event: Event, touch: Touch)
+        ensures { Touches touch event self.old self.new }
+    {
+        let rank = rank_of(event);
+        let slot = self.slots[rank].after(touch);
+        self.slots[rank] = slot;
+        self.pending.set(rank, slot.is_pending());
+    }
+
+    /// The event happened: its status is set.
+    pub fn raise(&mut self, event: Event)
+        requires { IsKnown self.old event }
+        ensures { Touches touch.Raise event self.old self.new }
+    {
+        self.touch(event, Touch::Raise)
+    }
+
+    /// The line of a level event was asserted: its status is set, and the runs that it may repeat are counted anew.
+    pub fn assert_line(&mut self, event: Event)
+        requires { IsLevel self.old event }
+        ensures { Touches touch.Assert event self.old self.new }
+    {
+        self.touch(event, Touch::Assert)
+    }
+
+    /// The line of a level event was dropped. Its status stays until the event's run ends.
+    pub fn drop_line(&mut self, event: Event)
+        requires { IsLevel self.old event }
+        ensures { Touches touch.Drop event self.old self.new }
+    {
+        self.touch(event, Touch::Drop)
+    }
+
+    /// The OS takes the event's status for dispatch. A listed event is held; the status is cleared unless the event is
+    /// level.
+    pub fn claim(&mut self, event: Event)
+        requires { pends self.old event ≡ true }
+        ensures { Touches touch.Claim event self.old self.new }
+    {
+        self.touch(event, Touch::Claim)
+    }
+
+    /// A run of the event's handler ended: the event is held no longer, and a level status becomes its line. A run that
+    /// ends under an asserted line is counted, up to sixteen, and any other sets that count to 0.
+    pub fn finish(&mut self, event: Event)
+        requires { (slot_of self.old event).state.held ≡ true }
+        ensures { Touches touch.Finish event self.old self.new }
+    {
+        self.touch(event, Touch::Finish)
+    }
+
+    /// One reference more to a listed event, up to 255.
+    pub fn up(&mut self, event: Event)
+        requires { IsListed self.old event }
+        ensures { Touches touch.Up event self.old self.new }
+    {
+        self.touch(event, Touch::Up)
+    }
+
+    /// One reference less to a listed event, down to 0.
+    pub fn down(&mut self, event: Event)
+        requires { IsListed self.old event }
+        ensures { Touches touch.Down event self.old self.new }
+    {
+        self.touch(event, Touch::Down)
+    }
+
+    /// Whether the event has status and is enabled.
+    pub fn pending(&self, event: Event) -> bool
+        ensures { result ≡ pends self.now event }
+    {
+        self.slot(event).is_pending()
+    }
+
+    /// The first event, in the order in which events are served, that has status and is enabled.
+    pub fn first_pending(&self) -> Option<Event>
+        ensures { IsFirst self.now result }
+    {
+        Some(event_at(self.pending.least()?))
+    }
+
+    /// Whether the event's status is set.
+    pub fn status(&self, event: Event) -> bool
+        ensures { result ≡ (slot_of self.now event).state.status }
+    {
+        self.slot(event).state.status
+    }
+
+    /// How many references enable a listed event.
+    pub fn count(&self, event: Event) -> u8
+        ensures { result ≡ (slot_of self.now event).state.count }
+    {
+        self.slot(event).state.count
+    }
+
+    /// Whether sixteen runs of a level event in a row ended under its asserted line.
+    pub fn parked(&self, event: Event) -> bool
+        ensures { result ≡ is_parked (slot_of self.now event).kind (slot_of self.now event).state }
+    {
+        self.slot(event).is_parked()
+    }
+}
+
+/// The slots of a chip at its start.
+fn first_slots(
+    alloc: Global,
+    listed: &[Listed],
+    controller: Option<Event>,
+) -> Result<Vec<Slot>, AllocError>
+    ensures size { IfOk result (λ slots. length slots.items ≡ 261) }
+    ensures quiet { IfOk result (λ slots. IsQuiet slots.items) }
+    ensures slots { IfOk result (λ slots. (n : Event) → slot_of slots.items n ≡ first_slot listed.now controller n) }
+{
+    let mut slots = unknown_slots(alloc)?;
+    write_listed(&mut slots, listed);
+    write_always(&mut slots, controller);
+    Ok(slots)
+}
+
+/// The slots of a machine that knows no event.
+fn unknown_slots(alloc: Global) -> Result<Vec<Slot>, AllocError>
+    ensures size { IfOk result (λ slots. length slots.items ≡ 261) }
+    ensures slots { IfOk result (λ slots. (k : ℕ) → slice_index_or slots.items k no_slot ≡ no_slot) }
+{
+    vec![in alloc; Slot::fresh(EventKind::Unknown, 0); EVENTS]
+}
+
+/// Writes the slots of the events that are always enabled.
+fn write_always(slots: &mut [Slot], controller: Option<Event>)
+    requires { length slots.old ≡ 261 }
+    ensures quiet { IsQuiet slots.old → IsQuiet slots.new }
+    ensures slots { (n : Event) → slot_of slots.new n
+        ≡ (if is_gbl n || is_controllers controller n then always else slot_of slots.old n) }
+{
+    let slot = Slot::fresh(EventKind::Always, 0);
+    write(slots, Event::Fixed(Fixed::Gbl), slot);
+    if let Some(event) = controller {
+        write(slots, event, slot);
+    }
+}
+
+/// Writes the slots of listed events, the last item first, so that the first that lists an event counts.
+fn write_listed(slots: &mut [Slot], listed: &[Listed])
+    requires { length slots.old ≡ 261 }
+    ensures quiet { IsQuiet slots.old → IsQuiet slots.new }
+    ensures slots { (n : Event) → slot_of slots.new n ≡ slot_or (listing listed.now n) (slot_of slots.old n) }
+{
+    for written in 0..listed.len() {
+        let item = &listed[listed.len() - 1 - written];
+        write(slots, item.event, Slot::listed(item));
+    }
+}
+
+/// Writes the slot of one event to which nothing happened.
+fn write(slots: &mut [Slot], event: Event, slot: Slot)
+    requires size { length slots.old ≡ 261 }
+    requires fresh { slot.state.status ≡ false }
+    ensures quiet { IsQuiet slots.old → IsQuiet slots.new }
+    ensures slots { (n : Event) → slot_of slots.new n ≡ (if same_event event n then slot else slot_of slots.old n) }
+{
+    slots[rank_of(event)] = slot;
+}
+
+/// The place of an event in the order in which events are served.
+fn rank_of(event: Event) -> usize
+    ensures value { result ≡ event_rank event }
+    ensures bound { result < 261 }
+{
+    match event {
+        Event::Fixed(Fixed::Tmr) => 0,
+        Event::Fixed(Fixed::Gbl) => 1,
+        Event::Fixed(Fixed::Pwr) => 2,
+        Event::Fixed(Fixed::Slp) => 3,
+        Event::Fixed(Fixed::Rtc) => 4,
+        Event::Gpe(number) => 5 + usize::from(number),
+    }
+}
+
+/// The event at a place of that order.
+fn event_at(rank: usize) -> Event
+    requires { rank < 261 }
+    ensures { event_rank result ≡ rank }
+{
+    match rank {
+        0 => Event::Fixed(Fixed::Tmr),
+        1 => Event::Fixed(Fixed::Gbl),
+        2 => Event::Fixed(Fixed::Pwr),
+        3 => Event::Fixed(Fixed::Slp),
+        4 => Event::Fixed(Fixed::Rtc),
+        _ => Event::Gpe((rank - 5) as u8),
+    }
+}

@@ -1,0 +1,157 @@
+ghost use Rattle.std.specs.Prelude.{◌≡◌};
+ghost use Rattle.event_chip.specs.Chip.{listed_slot, touched};
+ghost use Rattle.event_chip.specs.State.{after, fresh, is_level, is_listed, is_parked, is_pending};
+
+use acpi_regs::Listed;
+
+/// How an event is enabled and handled.
+#[derive(Clone, Copy, Debug)]
+pub enum EventKind {
+    /// The machine does not know the event: it is never enabled.
+    Unknown,
+    /// A listed fixed event, or a GPE that is listed as edge-triggered (`_Exx`).
+    Edge,
+    /// A GPE that is listed as level-triggered (`_Lxx`).
+    Level,
+    /// The event of the Global Lock or of the controller: it needs no reference, and has no handler that holds it.
+    Always,
+}
+
+impl EventKind {
+    /// Whether the description lists the event.
+    pub fn is_listed(self) -> bool
+        ensures { result ≡ is_listed self }
+    {
+        matches!(self, EventKind::Edge | EventKind::Level)
+    }
+
+    /// Whether the event has a line.
+    pub fn is_level(self) -> bool
+        ensures { result ≡ is_level self }
+    {
+        matches!(self, EventKind::Level)
+    }
+}
+
+/// The registers of one event.
+#[derive(Clone, Copy, Debug)]
+pub struct EventState {
+    /// The event happened, and was not claimed since.
+    pub status: bool,
+    /// The line of a level event is asserted.
+    pub line: bool,
+    /// A handler of the event was started or waits to be.
+    pub held: bool,
+    /// How many references enable the event, up to 255.
+    pub count: u8,
+    /// How many runs in a row, up to 16, ended under an asserted line.
+    pub storm: u8,
+}
+
+/// What the chip has of one event.
+#[derive(Clone, Copy, Debug)]
+pub struct Slot {
+    pub kind: EventKind,
+    pub state: EventState,
+}
+
+/// A way to touch an event.
+#[derive(Clone, Copy, Debug)]
+pub enum Touch {
+    /// It happened: its status is set.
+    Raise,
+    /// Its line was asserted.
+    Assert,
+    /// Its line was dropped.
+    Drop,
+    /// The OS took its status for dispatch.
+    Claim,
+    /// A run of its handler ended.
+    Finish,
+    /// One reference more.
+    Up,
+    /// One reference less.
+    Down,
+}
+
+impl Slot {
+    /// An event of this kind and with so many references, before anything happened.
+    pub fn fresh(kind: EventKind, count: u8) -> Slot
+        ensures { result ≡ record { kind = kind; state = fresh count } }
+    {
+        let state = EventState {
+            status: false,
+            line: false,
+            held: false,
+            count,
+            storm: 0,
+        };
+        Slot { kind, state }
+    }
+
+    /// A listed event, at the start.
+    pub fn listed(item: &Listed) -> Slot
+        ensures { result ≡ listed_slot item.now }
+    {
+        let kind = if item.level { EventKind::Level } else { EventKind::Edge };
+        Slot::fresh(kind, item.refs)
+    }
+
+    /// What is there after a touch.
+    pub fn after(self, touch: Touch) -> Slot
+        ensures { result ≡ touched touch self }
+    {
+        let Slot { kind, state } = self;
+        let state = match touch {
+            Touch::Raise => EventState { status: true, ..state },
+            Touch::Assert => EventState { status: true, line: true, storm: 0, ..state },
+            Touch::Drop => EventState { line: false, storm: 0, ..state },
+            Touch::Claim => state.claimed(kind),
+            Touch::Finish => state.finished(kind),
+            Touch::Up => EventState { count: state.count.saturating_add(1), ..state },
+            Touch::Down => EventState { count: state.count.saturating_sub(1), ..state },
+        };
+        Slot { kind, state }
+    }
+
+    /// Whether the event has status and is enabled.
+    pub fn is_pending(self) -> bool
+        ensures { result ≡ is_pending self.kind self.state }
+    {
+        let counted = matches!(self.kind, EventKind::Always) || self.state.count > 0;
+        self.state.status && counted && !self.state.held && !self.is_parked()
+    }
+
+    /// Whether sixteen runs in a row ended under an asserted line.
+    pub fn is_parked(self) -> bool
+        ensures { result ≡ is_parked self.kind self.state }
+    {
+        self.kind.is_level() && self.state.storm == 16
+    }
+}
+
+impl EventState {
+    // The OS clears an edge status when it takes the event, so that a raise during the run is seen after it. A level
+    // status is cleared after the run, when the handler has made the device drop its line.
+    fn claimed(self, kind: EventKind) -> EventState
+        ensures { result ≡ after kind Touch.Claim self }
+    {
+        EventState {
+            held: kind.is_listed(),
+            status: kind.is_level() && self.status,
+            ..self
+        }
+    }
+
+    // A line that is still asserted sets the status again at once.
+    fn finished(self, kind: EventKind) -> EventState
+        ensures { result ≡ after kind Touch.Finish self }
+    {
+        EventState {
+            held: false,
+            status: if kind.is_level() { self.line } else { self.status },
+            storm: if self.line { self.storm.saturating_add(1).min(16) } else { 0 },
+            ..self
+        }
+    }
+}
