@@ -1,2 +1,3 @@
 mod RankBits
 mod Slots
+mod Touches

@@ -29,40 +29,40 @@ same_by_rank (event.Fixed f) (event.Fixed g) = refl
 same_by_rank (event.Fixed f) (event.Gpe k) = let h = fixed_below f in sym (ne_eqb (fixed_rank f) (5 + k) (λ e. omega (arith, h, e)))
 same_by_rank (event.Gpe n) (event.Fixed g) = let h = fixed_below g in sym (ne_eqb (5 + n) (fixed_rank g) (λ e. omega (arith, h, e)))
 same_by_rank (event.Gpe n) (event.Gpe k) = elim (cases_eq n k) [
-    inl e ↦ eq-eqb n k e ∙ sym (eq-eqb (5 + n) (5 + k) (omega arith))
+  | inl e ↦ eq-eqb n k e ∙ sym (eq-eqb (5 + n) (5 + k) (omega arith))
   | inr d ↦ ne_eqb n k d ∙ sym (ne_eqb (5 + n) (5 + k) (λ e. d (omega arith)))
-  ]
+]
 
 pub written : (slots : List Slot) (e : Event) (s : Slot) → event_rank e < length slots → (n : Event) → slot_of (slice_set slots (event_rank e) s) n ≡ (if same_event e n then s else slot_of slots n)
 written slots e s h n = elim (cases_eq (event_rank n) (event_rank e)) [
-    inl x ↦ get_or-set_at slots (event_rank e) (event_rank n) s no_slot x h ∙ sym (rw (same_by_rank e n) (rw (eq-eqb (event_rank e) (event_rank n) (sym x)) refl))
+  | inl x ↦ get_or-set_at slots (event_rank e) (event_rank n) s no_slot x h ∙ sym (rw (same_by_rank e n) (rw (eq-eqb (event_rank e) (event_rank n) (sym x)) refl))
   | inr d ↦ get_or-set_other slots (event_rank e) (event_rank n) s no_slot d ∙ sym (rw (same_by_rank e n) (rw (ne_eqb (event_rank e) (event_rank n) (λ x. d (sym x))) refl))
-  ]
+]
 
 pub kept : (slots : List Slot) (words words' : List ℕ) (k : ℕ) (s : Slot) → IsKept slots words → k < 261 → ((n : ℕ) → n < 320 → has words' n ≡ (if n == k then is_pending s.kind s.state else has words n)) → IsKept (slice_set slots k s) words'
 kept slots words words' k s old h set = record {
   size = length-set slots k s ∙ old.size;
   pending = λ n l. elim (cases_eq n k) [
-      inl e ↦ set n l ∙ rw (eq-eqb n k e) (ap (λ x. is_pending x.kind x.state) (sym (get_or-set_at slots k n s no_slot e (let z = old.size in omega arith))))
+    | inl e ↦ set n l ∙ rw (eq-eqb n k e) (ap (λ x. is_pending x.kind x.state) (sym (get_or-set_at slots k n s no_slot e (let z = old.size in omega arith))))
     | inr d ↦ set n l ∙ rw (ne_eqb n k d) (old.pending n l ∙ ap (λ x. is_pending x.kind x.state) (sym (get_or-set_other slots k n s no_slot d)))
-    ];
+  ];
 }
 
 -- a slot at which nothing happened is written
 pub quiet : (slots : List Slot) (k : ℕ) (s : Slot) → k < length slots → s.state.status ≡ false → IsQuiet slots → IsQuiet (slice_set slots k s)
 quiet slots k s h fresh old n = elim (cases_eq n k) [
-    inl e ↦ ap (λ x. x.state.status) (get_or-set_at slots k n s no_slot e h) ∙ fresh
+  | inl e ↦ ap (λ x. x.state.status) (get_or-set_at slots k n s no_slot e h) ∙ fresh
   | inr d ↦ ap (λ x. x.state.status) (get_or-set_other slots k n s no_slot d) ∙ old n
-  ]
+]
 
 -- the slot of an event is touched
 pub touched_one : (slots : List Slot) (e : Event) (t : Touch) (k : ℕ) (x s : Slot) → k ≡ event_rank e → k < length slots → x ≡ get_or slots k x → s ≡ touched t x → (n : Event) → slot_of (slice_set slots k s) n ≡ (if same_event e n then touched t (slot_of slots n) else slot_of slots n)
 touched_one slots e t k x s at h read after n = elim (cases_eq (event_rank n) k) [
-    inl y ↦ get_or-set_at slots k (event_rank n) s no_slot y h ∙ after
-            ∙ ap (touched t) (read ∙ get_or_default slots k x no_slot h ∙ ap (λ j. get_or slots j no_slot) (sym y))
-            ∙ sym (rw (same_by_rank e n) (rw (eq-eqb (event_rank e) (event_rank n) (sym (y ∙ at))) refl))
+  | inl y ↦ get_or-set_at slots k (event_rank n) s no_slot y h ∙ after
+      ∙ ap (touched t) (read ∙ get_or_default slots k x no_slot h ∙ ap (λ j. get_or slots j no_slot) (sym y))
+      ∙ sym (rw (same_by_rank e n) (rw (eq-eqb (event_rank e) (event_rank n) (sym (y ∙ at))) refl))
   | inr d ↦ get_or-set_other slots k (event_rank n) s no_slot d ∙ sym (rw (same_by_rank e n) (rw (ne_eqb (event_rank e) (event_rank n) (λ z. d (sym z ∙ sym at))) refl))
-  ]
+]
 
 -- the last item that was not written yet is written
 pub listed_more : (items : List Listed) (k : ℕ) (d : Listed) (n : Event) (s : Slot) → k < length items → slot_or (listing (drop k items) n) s ≡ (if same_event (get_or items k d).event n then listed_slot (get_or items k d) else slot_or (listing (drop (suc k) items) n) s)
@@ -83,6 +83,6 @@ listed_back items w d n s old x new h is set before =
 -- every slot of a chip that knows no event
 pub all_unknown : (slots : List Slot) (s : Slot) → s ≡ no_slot → slots ≡ replicate 261 s → (k : ℕ) → get_or slots k no_slot ≡ no_slot
 all_unknown slots s none all k = elim (cases_lt k 261) [
-    inl h ↦ ap (λ x. get_or x k no_slot) all ∙ get_or-replicate 261 k s no_slot h ∙ none
+  | inl h ↦ ap (λ x. get_or x k no_slot) all ∙ get_or-replicate 261 k s no_slot h ∙ none
   | inr h ↦ let size : length slots ≤ k = let z = ap length all ∙ length-replicate 261 s in omega arith in get_or_past slots k no_slot size
-  ]
+]

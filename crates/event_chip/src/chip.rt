@@ -49,7 +49,10 @@ impl EventChip {
         ensures { IfOk result (λ chip. (n : Event) → slot_of chip n ≡ first_slot listed.now controller n) }
     {
         let slots = first_slots(alloc, listed, controller)?;
-        Ok(EventChip { slots, pending: Ranks::new() })
+        Ok(EventChip {
+            slots,
+            pending: Ranks::new(),
+        })
     }
 
     /// What is known of an event, and its registers.

@@ -8,12 +8,12 @@
 #![tactic(auto)]
 
 mod chip;
-//pub mod laws;
+pub mod laws;
 mod ranks;
 mod state;
 
 pub use chip::EventChip;
 pub use state::{EventKind, EventState, Slot, Touch};
 
-//#[cfg(test)]
-//mod tests;
+#[cfg(test)]
+mod tests;

@@ -93,7 +93,11 @@ impl Slot {
     pub fn listed(item: &Listed) -> Slot
         ensures { result ≡ listed_slot item.now }
     {
-        let kind = if item.level { EventKind::Level } else { EventKind::Edge };
+        let kind = if item.level {
+            EventKind::Level
+        } else {
+            EventKind::Edge
+        };
         Slot::fresh(kind, item.refs)
     }
 
@@ -103,13 +107,31 @@ impl Slot {
     {
         let Slot { kind, state } = self;
         let state = match touch {
-            Touch::Raise => EventState { status: true, ..state },
-            Touch::Assert => EventState { status: true, line: true, storm: 0, ..state },
-            Touch::Drop => EventState { line: false, storm: 0, ..state },
+            Touch::Raise => EventState {
+                status: true,
+                ..state
+            },
+            Touch::Assert => EventState {
+                status: true,
+                line: true,
+                storm: 0,
+                ..state
+            },
+            Touch::Drop => EventState {
+                line: false,
+                storm: 0,
+                ..state
+            },
             Touch::Claim => state.claimed(kind),
             Touch::Finish => state.finished(kind),
-            Touch::Up => EventState { count: state.count.saturating_add(1), ..state },
-            Touch::Down => EventState { count: state.count.saturating_sub(1), ..state },
+            Touch::Up => EventState {
+                count: state.count.saturating_add(1),
+                ..state
+            },
+            Touch::Down => EventState {
+                count: state.count.saturating_sub(1),
+                ..state
+            },
         };
         Slot { kind, state }
     }
@@ -149,8 +171,16 @@ impl EventState {
     {
         EventState {
             held: false,
-            status: if kind.is_level() { self.line } else { self.status },
-            storm: if self.line { self.storm.saturating_add(1).min(16) } else { 0 },
+            status: if kind.is_level() {
+                self.line
+            } else {
+                self.status
+            },
+            storm: if self.line {
+                self.storm.saturating_add(1).min(16)
+            } else {
+                0
+            },
             ..self
         }
     }

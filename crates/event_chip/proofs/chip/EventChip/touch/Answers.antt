@@ -16,5 +16,5 @@ returns c =
     let bound = c.rank_of-rank.ensures.bound in
     let within : c.rank_of-rank.result < length slots = omega arith in
     subst (λ old. (n : Event) → slot_of (slice_set slots c.rank_of-rank.result c.after-slot.result) n ≡ (if same_event c.args.event n then touched c.args.touch (slot_of old n) else slot_of old n))
-        c.self.view_is
-        (touched_one slots c.args.event c.args.touch c.rank_of-rank.result c.index.result.now c.after-slot.result c.rank_of-rank.ensures.value within c.index.ensures c.after-slot.ensures)
+    c.self.view_is
+    (touched_one slots c.args.event c.args.touch c.rank_of-rank.result c.index.result.now c.after-slot.result c.rank_of-rank.ensures.value within c.index.ensures c.after-slot.ensures)

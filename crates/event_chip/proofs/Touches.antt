@@ -1,0 +1,43 @@
+-- Lists of touches.
+use Rattle.std.proofs.Common.{◌≡◌, ℕ, ◌+◌, ◌≤◌, ◌==◌, true, false, min, nat_le, List, [], ◌∷◌, refl, ap, ◌∙◌, arith, rules}
+use Rattle.event_chip.specs.declared.state.EventKind.{EventKind}
+use Rattle.event_chip.specs.declared.state.EventKind.TheVariants as kind
+use Rattle.event_chip.specs.declared.state.EventState.{EventState}
+use Rattle.event_chip.specs.declared.state.Touch.{Touch}
+use Rattle.event_chip.specs.declared.state.Touch.TheVariants as touch
+use Rattle.event_chip.specs.State.{after_all, asserted, claimed, downed, dropped, finished, is_level, raised, upped}
+use Rattle.event_chip.specs.Laws.{unclaimed, leaves_line, finishes, KeepsRaise, ParksAtSixteen}
+
+-- the status stays
+stays : (k : EventKind) (ts : List Touch) (s : EventState) → is_level k ≡ false → unclaimed ts ≡ true → s.status ≡ true → (after_all k ts s).status ≡ true
+stays k [] s e u h = h
+stays k (touch.Raise ∷ ts) s e u h = stays k ts (raised s) e u refl
+stays k (touch.Assert ∷ ts) s e u h = stays k ts (asserted s) e u refl
+stays k (touch.Drop ∷ ts) s e u h = stays k ts (dropped s) e u h
+stays k (touch.Claim ∷ ts) s e u h = cc
+stays k (touch.Finish ∷ ts) s e u h = stays k ts (finished k s) e u (rw e h)
+stays k (touch.Up ∷ ts) s e u h = stays k ts (upped s) e u h
+stays k (touch.Down ∷ ts) s e u h = stays k ts (downed s) e u h
+
+pub keeps_raise : KeepsRaise
+keeps_raise k ts s e u = stays k ts (raised s) e u refl
+
+-- the runs that end under the line are counted, up to sixteen
+counted : (ts : List Touch) (s : EventState) → leaves_line ts ≡ true → s.line ≡ true → s.storm ≤ 16 → (after_all kind.Level ts s).storm ≡ min 16 (s.storm + finishes ts)
+counted [] s l h b = omega arith
+counted (touch.Raise ∷ ts) s l h b = counted ts (raised s) l h b
+counted (touch.Assert ∷ ts) s l h b = cc
+counted (touch.Drop ∷ ts) s l h b = cc
+counted (touch.Claim ∷ ts) s l h b = counted ts (claimed kind.Level s) l h b
+counted (touch.Finish ∷ ts) s l h b =
+    let more : (finished kind.Level s).storm ≡ min 16 (s.storm + 1) = rw h refl in
+    let bound : (finished kind.Level s).storm ≤ 16 = omega (arith, more) in
+    counted ts (finished kind.Level s) l h bound ∙ omega (arith, more)
+counted (touch.Up ∷ ts) s l h b = counted ts (upped s) l h b
+counted (touch.Down ∷ ts) s l h b = counted ts (downed s) l h b
+
+sixteen : (n : ℕ) → (min 16 (0 + n) == 16) ≡ nat_le 16 n
+sixteen n = grind (arith, rules)
+
+pub parks : ParksAtSixteen
+parks ts s l = ap (λ n. n == 16) (counted ts (asserted s) l refl (omega arith)) ∙ sixteen (finishes ts)

@@ -1,0 +1,48 @@
+-- What follows for an event from the ways in which it is touched.
+use Rattle.std.specs.Prelude.{◌≡◌, ℕ, ◌+◌, ◌<◌, Bool, true, false, nat_le, List, [], ◌∷◌}
+use Rattle.event_chip.specs.declared.state.EventKind.{EventKind}
+use Rattle.event_chip.specs.declared.state.EventKind.TheVariants as kind
+use Rattle.event_chip.specs.declared.state.EventState.{EventState}
+use Rattle.event_chip.specs.declared.state.Touch.{Touch}
+use Rattle.event_chip.specs.declared.state.Touch.TheVariants as touch
+use Rattle.event_chip.specs.State.{after_all, asserted, downed, dropped, finished, is_level, is_parked, raised, upped}
+
+-- the event is not claimed
+abbrev pub unclaimed : List Touch → Bool
+unclaimed [] = true
+unclaimed (touch.Claim ∷ ts) = false
+unclaimed (t ∷ ts) = unclaimed ts
+
+-- a raise of an event that is not level stays until a claim takes it, whatever else happens: so one between a claim and
+-- its finish is not lost
+abbrev pub KeepsRaise : Type 0
+KeepsRaise = (k : EventKind) (ts : List Touch) (s : EventState) → is_level k ≡ false → unclaimed ts ≡ true → (after_all k ts (raised s)).status ≡ true
+
+-- a run of a level event that ends under an asserted line raises the event again, and one that ends under no line does not
+abbrev pub FollowsLine : Type 0
+FollowsLine = (s : EventState) → (finished kind.Level s).status ≡ s.line
+
+-- the line is neither asserted nor dropped
+abbrev pub leaves_line : List Touch → Bool
+leaves_line [] = true
+leaves_line (touch.Assert ∷ ts) = false
+leaves_line (touch.Drop ∷ ts) = false
+leaves_line (t ∷ ts) = leaves_line ts
+
+-- how many runs ended
+abbrev pub finishes : List Touch → ℕ
+finishes [] = 0
+finishes (touch.Finish ∷ ts) = 1 + finishes ts
+finishes (t ∷ ts) = finishes ts
+
+-- a level event is parked exactly where sixteen runs or more ended since its line was asserted, and the line was left
+abbrev pub ParksAtSixteen : Type 0
+ParksAtSixteen = (ts : List Touch) (s : EventState) → leaves_line ts ≡ true → is_parked kind.Level (after_all kind.Level ts (asserted s)) ≡ nat_le 16 (finishes ts)
+
+-- a drop of the line, or an assert, frees a parked event
+abbrev pub Revives : Type 0
+Revives = (s : EventState) → (is_parked kind.Level (dropped s) ≡ false) × (is_parked kind.Level (asserted s) ≡ false)
+
+-- references count up to 255 and down to 0, one at a time
+abbrev pub Counts : Type 0
+Counts = (s : EventState) → (s.count < 255 → (upped s).count ≡ s.count + 1) × (s.count ≡ 255 → (upped s).count ≡ 255) × (0 < s.count → (downed s).count + 1 ≡ s.count) × (s.count ≡ 0 → (downed s).count ≡ 0)

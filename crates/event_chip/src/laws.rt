@@ -1,0 +1,25 @@
+//! What follows for an event from the ways in which it is touched: facts for the proofs of the crates above, which cost
+//! nothing to call.
+ghost use Rattle.event_chip.specs.Laws.{Counts, FollowsLine, KeepsRaise, ParksAtSixteen, Revives};
+
+/// A raise of an edge event stays until it is claimed, also one between a claim and its finish.
+pub fn law_raise_kept()
+    ensures { KeepsRaise }
+{}
+
+/// A run of a level event that ends under an asserted line raises the event again, and any other does not.
+pub fn law_line()
+    ensures { FollowsLine }
+{}
+
+/// A level event is parked exactly where sixteen runs or more ended since its line was asserted, with no drop and no
+/// assert among them or after. A drop or an assert frees it.
+pub fn law_parked()
+    ensures parks { ParksAtSixteen }
+    ensures revives { Revives }
+{}
+
+/// References count up to 255 and down to 0, one at a time.
+pub fn law_counts()
+    ensures { Counts }
+{}
