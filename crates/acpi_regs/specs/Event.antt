@@ -1,5 +1,5 @@
 -- Events: their bits, their order, and which is which.
-use Rattle.std.specs.Prelude.{ℕ, ◌+◌, ◌==◌, Bool, false}
+use Rattle.std.specs.Prelude.{ℕ, ◌+◌, ◌/◌, ◌%◌, ◌==◌, Bool, false}
 use Rattle.acpi_regs.specs.declared.event.Fixed.{Fixed}
 use Rattle.acpi_regs.specs.declared.event.Fixed.TheVariants as fixed
 use Rattle.acpi_regs.specs.declared.event.Event.{Event}
@@ -38,3 +38,12 @@ gbl = event.Fixed fixed.Gbl
 
 abbrev pub is_gbl : Event → Bool
 is_gbl n = same_event n gbl
+
+-- where the pin of an event stands: fixed events in word 0 by their PM1 bits, GPEs in four words by 64
+abbrev pub word_of : Event → ℕ
+word_of (event.Fixed f) = 0
+word_of (event.Gpe n) = 1 + n / 64
+
+abbrev pub bit_of : Event → ℕ
+bit_of (event.Fixed f) = fixed_bit f
+bit_of (event.Gpe n) = n % 64

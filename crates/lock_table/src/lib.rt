@@ -1,0 +1,14 @@
+//! The words that all actors share: the Global Lock's word of the FACS, and five words of pins (ACPI 6.5, sections
+//! 5.2.10.1 and 4.8).
+//!
+//! Today these are plain values, which a world of one thread keeps; the table over which threads share them comes on top.
+//! The crate stands on `acpi_regs`. Its contracts speak of the bit at which an event stands, `is_set` of `specs/Bits.antt`.
+#![tactic(auto)]
+
+pub mod laws;
+mod words;
+
+pub use words::{Attempt, Bits, Words};
+
+#[cfg(test)]
+mod tests;
