@@ -1,6 +1,6 @@
 -- The Firmware ACPI Control Structure (ACPI 6.5, section 5.2.10) by its first 64 bytes: the signature at byte 0, the
 -- length at byte 4 and the Global Lock at byte 16, both as 32 bits with the lowest byte first.
-use Rattle.std.specs.Prelude.{◌≡◌, ◌<◌, ℕ, ◌+◌, ◌*◌, Bool, not, ◌==◌, ◌&&◌, nat_lt, List, [], ◌∷◌, ◌++◌, length, take, replicate, slice_index, codes, Result, Ok, Err, if◌then◌else◌}
+use Rattle.std.specs.Prelude.{◌≡◌, ◌<◌, ℕ, ◌+◌, ◌*◌, Bool, not, ◌==◌, ◌&&◌, nat_lt, List, ◌∷◌, ◌++◌, length, take, replicate, slice_index, codes, Result, Ok, Err, if◌then◌else◌}
 use Rattle.facs_word.specs.declared.table.FacsFault.{FacsFault}
 use Rattle.facs_word.specs.declared.table.FacsFault.TheVariants as fault
 

@@ -55,8 +55,9 @@ fn bytes_that_are_no_table_are_refused(rt: HostRuntime) {
         let mut bytes = table(0);
         bytes[place] = byte;
         assert_eq!(rt; Facs::read(&bytes).err(), Some(fault), "byte {place}");
-        assert_eq!(rt; Facs::read(&bytes[..63]).err(), Some(FacsFault::Short));
     }
+    let short = [0x46; 63];
+    assert_eq!(rt; Facs::read(&short).err(), Some(FacsFault::Short));
     assert_eq!(rt; Facs::read(&[]).err(), Some(FacsFault::Short));
 }
 

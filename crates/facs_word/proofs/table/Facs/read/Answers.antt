@@ -1,5 +1,5 @@
 -- The bytes were accepted, so the copied table reads as itself.
-use Rattle.std.proofs.Common.{◌≡◌, Ok, take, arith, rules}
+use Rattle.std.proofs.Common.{◌≡◌, Ok, rules}
 use Rattle.facs_word.specs.Table.{reads}
 use Rattle.facs_word.proofs.Tables.{reads_again}
 use Rattle.facs_word.proofs.table.Facs.read.Goals as goal
