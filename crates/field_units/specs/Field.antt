@@ -1,0 +1,34 @@
+-- Regions and fields as plain data (ACPI 6.5, sections 5.5.2.4 and 19.6.48).
+use Rattle.std.specs.Prelude.{ℕ, ◌+◌, ◌*◌, Bool, ◌||◌, nat_lt, List, Option, Some, None, if◌then◌else◌}
+use Rattle.field_units.specs.declared.fault.FieldFault.{FieldFault}
+use Rattle.field_units.specs.declared.fault.FieldFault.TheVariants as fault
+use Rattle.field_units.specs.declared.rules.LockRule.{LockRule}
+use Rattle.field_units.specs.declared.rules.RegionKind.{RegionKind}
+use Rattle.field_units.specs.declared.rules.RegionKind.TheVariants as kind
+use Rattle.field_units.specs.declared.rules.UpdateRule.{UpdateRule}
+
+-- a region, with the byte that each cell begins with
+pub record RegionData : Type 0 where
+  pub kind : RegionKind
+  pub cells : List ℕ
+
+-- a field: `width` bits from bit `bit` on of the region at place `region`, which is of this kind and has `len` cells
+pub record Field : Type 0 where
+  pub region : ℕ
+  pub kind : RegionKind
+  pub len : ℕ
+  pub bit : ℕ
+  pub width : ℕ
+  pub lock : LockRule
+  pub update : UpdateRule
+
+-- how many cells a region may have for a field in it: an address of the controller is one byte (section 12.3.1)
+abbrev pub most_cells : RegionKind → ℕ
+most_cells kind.Memory = 65535
+most_cells kind.Controller = 256
+
+-- why there is no field of this width at this bit of a region of this length
+abbrev pub field_fault : ℕ → ℕ → ℕ → Option FieldFault
+field_fault len bit width =
+    if nat_lt width 1 || nat_lt 64 width then Some fault.BadWidth
+    else (if nat_lt (8 * len) (bit + width) then Some fault.OutsideRegion else None)
