@@ -1,9 +1,9 @@
 -- Facts about single bits of a number.
-use Rattle.std.proofs.Common.{◌≡◌, ℕ, zero, suc, ◌+◌, ◌-◌, ◌*◌, ◌/◌, ◌%◌, ◌^◌, ◌<◌, ◌≤◌, min, max, bit_and, bit_or, ◌⊎◌, inl, inr, refl, sym, ap, subst, ◌∙◌, arith, add-one}
-use Rattle.std.specs.Int.{bit_at, bit_not, w8}
+use Rattle.std.proofs.Common.{◌≡◌, ℕ, zero, suc, ◌+◌, ◌-◌, ◌*◌, ◌/◌, ◌%◌, ◌^◌, ◌<◌, ◌≤◌, min, max, bit_and, bit_or, inl, inr, refl, sym, ap, subst, ◌∙◌, arith}
+use Rattle.std.specs.Int.{bit_at, w8}
 use Rattle.std.proofs.Math.Nat.{pow-suc, pow-le-pow_right}
 use Rattle.std.proofs.lemmas.Bool.{cases_lt}
-use Rattle.std.proofs.lemmas.Nat.{and_mask, field_of, mul-le, one_shl, or_shifted, pow-add, pow_below, pow_pos, shl_below, shr-shr, shr_split, shl_whole, mod_below}
+use Rattle.std.proofs.lemmas.Nat.{and_mask, mul-le, one_shl, or_shifted, pow-add, pow_below, pow_pos, shr-shr, shr_split, shl_whole, mod_below}
 use Rattle.std.proofs.lemmas.Nat.Bits.{bit_at_and, bit_at_or, bit_at_not, bit_at_lowest, bit_at_cat_low, bit_at_cat_high, bit_at_mask_above, bit_at_mask_below, bit_at_mask_inside, bit_at-lt, same_from_bits_below}
 use Rattle.field_units.specs.Bits.{from_bits}
 
@@ -24,14 +24,14 @@ bit_at-from_bits zero f h i less = absurd (omega arith)
 bit_at-from_bits (suc n) f h i less =
     let rest : from_bits n f < 2 ^ n = from_bits-lt n f (λ j below. h j (omega arith)) in
     elim (cases_lt i n) [
-        inl p ↦ bit_at_cat_low (f n) n (from_bits n f) i p ∙ bit_at-from_bits n f (λ j below. h j (omega arith)) i p
+      | inl p ↦ bit_at_cat_low (f n) n (from_bits n f) i p ∙ bit_at-from_bits n f (λ j below. h j (omega arith)) i p
       | inr q ↦
-            let top : f n < 2 = h n (omega arith) in
-            let none : n - n ≡ 0 = omega arith in
-            let here : bit_at (f n) 0 ≡ f n = bit_at_lowest (f n) ∙ omega arith in
-            let e : n ≡ i = omega arith in
-            subst (λ m. bit_at (f n * 2 ^ n + from_bits n f) m ≡ f m) e (bit_at_cat_high (f n) n (from_bits n f) n rest (omega arith) ∙ ap (λ k. bit_at (f n) k) none ∙ here)
-      ]
+          let top : f n < 2 = h n (omega arith) in
+          let none : n - n ≡ 0 = omega arith in
+          let here : bit_at (f n) 0 ≡ f n = bit_at_lowest (f n) ∙ omega arith in
+          let e : n ≡ i = omega arith in
+          subst (λ m. bit_at (f n * 2 ^ n + from_bits n f) m ≡ f m) e (bit_at_cat_high (f n) n (from_bits n f) n rest (omega arith) ∙ ap (λ k. bit_at (f n) k) none ∙ here)
+    ]
 
 pub from_bits-ext : (n : ℕ) (f g : ℕ → ℕ) → ((i : ℕ) → i < n → f i ≡ g i) → from_bits n f ≡ from_bits n g
 unfolding from_bits

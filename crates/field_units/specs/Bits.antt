@@ -63,6 +63,10 @@ abbrev pub replaced : Field → ℕ → ℕ → ℕ → ℕ
 replaced field k old value =
     from_bits 8 (λ j. if has_bit field (bit_of_byte field k + j) then bit_at value (bit_of_byte field k + j - field.bit) else outside field.update (bit_at old j))
 
--- the bytes of a field once each was replaced, whatever stood there
+-- byte b of the region holds a bit of the field
+abbrev pub in_span : Field → ℕ → Bool
+in_span field b = nat_le (first_byte field) b && nat_lt b (first_byte field + byte_count field)
+
+-- the bytes of a region once a value was written: those of the field are replaced, and the others stay
 abbrev pub written : Field → (ℕ → ℕ) → ℕ → ℕ → ℕ
-written field cells value b = replaced field (b - field.bit / 8) (cells b) value
+written field cells value b = if in_span field b then replaced field (b - first_byte field) (cells b) value else cells b

@@ -1,5 +1,5 @@
 -- Regions and fields as plain data (ACPI 6.5, sections 5.5.2.4 and 19.6.48).
-use Rattle.std.specs.Prelude.{ℕ, ◌+◌, ◌*◌, Bool, ◌||◌, nat_lt, List, Option, Some, None, if◌then◌else◌}
+use Rattle.std.specs.Prelude.{ℕ, ◌+◌, ◌*◌, ◌||◌, nat_lt, List, Option, Some, None, if◌then◌else◌}
 use Rattle.field_units.specs.declared.fault.FieldFault.{FieldFault}
 use Rattle.field_units.specs.declared.fault.FieldFault.TheVariants as fault
 use Rattle.field_units.specs.declared.rules.LockRule.{LockRule}

@@ -2,7 +2,7 @@
 //! function with nothing to do, whose contract says it.
 ghost use Rattle.std.specs.Prelude.{◌≡◌, ◌≤◌, ◌↔◌, ℕ, IsTrue};
 ghost use Rattle.field_units.specs.Field.{Field};
-ghost use Rattle.field_units.specs.Laws.{HoldsBits, IsPartial, NineBytes, ReadIsValue, WrittenBits, WrittenIsRead};
+ghost use Rattle.field_units.specs.Laws.{HoldsBits, IsPartial, NineBytes, OldIsFree, ReadIsValue, ValueFits, WrittenBits, WrittenIsRead};
 
 use crate::{FieldFault, FieldUnit, LockRule, RegionKind, Span, UpdateRule};
 
@@ -16,9 +16,21 @@ pub fn law_written_is_read()
     ensures { (field : Field) (cells : ℕ → ℕ) (value : ℕ) → WrittenIsRead field cells value }
 {}
 
-/// Each bit of the bytes written is the value's where the field has it, and elsewhere what the update rule says.
+/// Each bit of the region after a write: the value's where the field has it, what the update rule makes of the old one
+/// elsewhere in the field's bytes, and the old one in other bytes.
 pub fn law_written_bits()
     ensures { (field : Field) (cells : ℕ → ℕ) (value p : ℕ) → WrittenBits field cells value p }
+{}
+
+/// The value of a field is below 2 to its width.
+pub fn law_value_fits()
+    ensures { (field : Field) (cells : ℕ → ℕ) → ValueFits field cells }
+{}
+
+/// What stood in a byte matters only where the byte is partial and the rule preserves its other bits: elsewhere it need
+/// not be read before it is written.
+pub fn law_old_is_free()
+    ensures { (field : Field) (k old other value : ℕ) → OldIsFree field k old other value }
 {}
 
 /// The bytes of a field are those that hold a bit of it.

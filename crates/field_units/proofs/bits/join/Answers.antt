@@ -1,5 +1,5 @@
 use Rattle.field_units.proofs.BitFacts.{or_joined}
-use Rattle.std.proofs.Common.{◌<◌, arith}
+use Rattle.std.proofs.Common.{arith}
 use Rattle.field_units.proofs.bits.join.Goals as goal
 
 pub returns : goal.returns

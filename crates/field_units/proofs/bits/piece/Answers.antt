@@ -1,5 +1,5 @@
 use Rattle.field_units.proofs.BitFacts.{low_bits}
-use Rattle.std.proofs.Common.{◌≡◌, ◌<◌, ◌-◌, ◌/◌, ◌%◌, ◌^◌, arith, ap, ◌∙◌}
+use Rattle.std.proofs.Common.{◌-◌, ◌/◌, ◌%◌, ◌^◌, arith, ap, ◌∙◌}
 use Rattle.field_units.proofs.bits.piece.Goals as goal
 
 pub returns : goal.returns
