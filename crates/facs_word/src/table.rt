@@ -61,15 +61,17 @@ impl Facs {
         if bytes.len() < 64 {
             return Err(FacsFault::Short);
         }
-        if !(bytes[0] == b'F' && bytes[1] == b'A' && bytes[2] == b'C' && bytes[3] == b'S') {
+        // The slice has 64 bytes, so it is always an array of them.
+        let Ok(table) = <&[u8; 64]>::try_from(&bytes[..64]) else {
+            return Err(FacsFault::Short);
+        };
+        if !(table[0] == b'F' && table[1] == b'A' && table[2] == b'C' && table[3] == b'S') {
             return Err(FacsFault::BadSignature);
         }
-        if u32::from_le_bytes([bytes[4], bytes[5], bytes[6], bytes[7]]) < 64 {
+        if u32::from_le_bytes([table[4], table[5], table[6], table[7]]) < 64 {
             return Err(FacsFault::BadLength);
         }
-        let mut table = [0; 64];
-        table.copy_from_slice(&bytes[..64]);
-        Ok(Facs { bytes: table })
+        Ok(Facs { bytes: *table })
     }
 
     /// The 64 bytes of the table, as they were read.
