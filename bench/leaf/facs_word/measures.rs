@@ -1,4 +1,4 @@
-// Loops over the calls of `facs_word`: what they have in common with plain Rust.
+// Loops over the calls of `facs_word`. bench/leaf/run compiles this text twice: over the proved crate, and over peer.rs.
 use facs_word::{Facs, acquire_of, owned, pending, release_of};
 
 pub fn acquire_and_release(turns: u64) -> u64 {

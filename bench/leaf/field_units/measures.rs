@@ -1,4 +1,4 @@
-// Loops over the calls of `field_units`: what they have in common with plain Rust.
+// Loops over the calls of `field_units`. bench/leaf/run compiles this text twice: over the proved crate, and over peer.rs.
 use field_units::{FieldFault, FieldUnit, LockRule, RegionKind, UpdateRule};
 
 fn field(bit: u32, width: u8, update: UpdateRule) -> Result<FieldUnit, FieldFault> {
