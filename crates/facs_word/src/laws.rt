@@ -1,0 +1,29 @@
+//! Laws over the definitions of this crate. A law is a function with nothing to do, whose contract says it.
+ghost use Rattle.std.specs.Prelude.{◌≡◌, ◌≤◌, ◌↔◌, List, ℕ, IsTrue, Ok};
+ghost use Rattle.facs_word.specs.Table.{ReadsBack, fresh_table, lock_of, reads};
+ghost use Rattle.facs_word.specs.Word.{HasBits};
+
+use crate::FacsFault;
+
+/// The four values of the word are those of its two bits.
+pub fn law_word_bits()
+    ensures { (word : ℕ) → word ≤ 3 → HasBits word }
+{}
+
+/// A table that was read is written as the first 64 bytes that it was read from, and these read as that table.
+pub fn law_reads_back()
+    ensures { (bytes table : List ℕ) → ReadsBack bytes table }
+{}
+
+/// A fresh table reads as itself, and its lock is free.
+pub fn law_fresh()
+    ensures reads { reads fresh_table ≡ Ok fresh_table }
+    ensures free { lock_of fresh_table ≡ 0 }
+{}
+
+/// Two faults are equal exactly where `==` says so.
+pub fn law_same_fault(one: FacsFault, other: FacsFault) -> bool
+    ensures { IsTrue result ↔ one ≡ other }
+{
+    one == other
+}
