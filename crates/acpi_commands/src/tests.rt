@@ -2,6 +2,7 @@
 use crate::{Status, acpi_events, end};
 use acpi_io::{MemorySink, MemorySource, ReadOutcome, Source};
 use std::alloc::{AllocError, Global};
+use std::process::ExitCode;
 use std::test::Fail;
 
 /// The machine with nothing in it.
@@ -272,6 +273,66 @@ fn many_writes(alloc: Global, count: u32) -> Result<String, AllocError> {
     Ok(text)
 }
 
+/// A description with all that the limits allow: a region of 4,096 cells, each with its byte, 256 fields, and, where
+/// there is firmware, a script of 4,096 writes of the greatest value.
+fn largest(alloc: Global, firmware: bool) -> Result<String, Fail> {
+    let mut text = String::from_str(
+        alloc,
+        "{\"controller\":null,\"devices\":[],\"events\":[],\"fields\":[",
+    )?;
+    for i in 0..256u32 {
+        let comma = if i == 0 { "" } else { "," };
+        let bit = i * 128;
+        text.push_str(
+            &format!(in alloc; "{comma}{{\"bit\":{bit},\"lock\":false,\"region\":0,\"update\":\"preserve\",\"width\":8}}")?,
+        )?;
+    }
+    text.push_str("],\"firmware\":[")?;
+    if firmware {
+        text.push_str("[")?;
+        for i in 0..4096u32 {
+            let comma = if i == 0 { "" } else { "," };
+            let field = i % 256;
+            text.push_str(
+                &format!(in alloc; "{comma}[\"write\",{field},18446744073709551615]")?,
+            )?;
+        }
+        text.push_str("]")?;
+    }
+    text.push_str(
+        "],\"gpe\":{\"base1\":0,\"gpe0\":2,\"gpe1\":0},\"regions\":[{\"bytes\":[255",
+    )?;
+    for _ in 1..4096 {
+        text.push_str(",255")?;
+    }
+    text.push_str(
+        "],\"kind\":\"memory\",\"len\":4096}],\"schedule\":[],\"version\":1,\"workers\":1}",
+    )?;
+    Ok(text)
+}
+
+#[test]
+fn the_largest_description_runs(rt: HostRuntime) -> Result<(), Fail> {
+    let alloc = rt.alloc();
+    for firmware in [true, false] {
+        let description = largest(alloc, firmware)?;
+        let mut log = String::from_str(alloc, "machine ")?;
+        log.push_str(&description)?;
+        log.push_str("\n")?;
+        if firmware {
+            for i in 0..4096u32 {
+                let offset = i % 256 * 16;
+                log.push_str(&format!(in alloc; "f0 write 00:{offset:04X} FF\n")?)?;
+            }
+        }
+        log.push_str(if firmware { "rest 4096\n" } else { "rest 0\n" })?;
+        let outcome = run(alloc, description.as_bytes(), NO_FAULTS)?;
+        assert_eq!(rt; outcome.status, Status::Ok);
+        assert!(rt; outcome.held.as_slice() == log.as_bytes());
+    }
+    Ok(())
+}
+
 #[test]
 fn a_log_of_4096_entries_reaches_the_sink_in_few_writes(rt: HostRuntime) -> Result<(), Fail> {
     let description = many_writes(rt.alloc(), 4096)?;
@@ -301,10 +362,21 @@ fn each_status_has_its_code_and_name(rt: HostRuntime) -> Result<(), Fail> {
         (Status::Memory, 7, "Memory"),
         (Status::TooLarge, 9, "TooLarge"),
     ];
+    let alloc = rt.alloc();
     for (status, code, name) in table {
         assert_eq!(rt; status.code(), code);
-        let text = format!(in rt.alloc(); "{status}")?;
+        let text = format!(in alloc; "{status}")?;
         assert!(rt; text.as_str() == name);
+        let line = if code == 0 {
+            String::new(alloc)
+        } else {
+            format!(in alloc; "acpi_events: {name}\n")?
+        };
+        let mut errors = MemorySink::new(alloc, Vec::new(alloc), 7, 64)?;
+        assert_eq!(rt; end(&status, &mut errors), ExitCode::from(code));
+        assert!(rt; errors.held() == line.as_bytes(), "{name}");
+        let mut broken = MemorySink::new(alloc, Vec::new(alloc), 7, 0)?;
+        assert_eq!(rt; end(&status, &mut broken), ExitCode::from(code));
     }
     Ok(())
 }
