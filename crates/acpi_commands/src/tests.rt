@@ -283,9 +283,9 @@ fn largest(alloc: Global, firmware: bool) -> Result<String, Fail> {
     for i in 0..256u32 {
         let comma = if i == 0 { "" } else { "," };
         let bit = i * 128;
-        text.push_str(
-            &format!(in alloc; "{comma}{{\"bit\":{bit},\"lock\":false,\"region\":0,\"update\":\"preserve\",\"width\":8}}")?,
-        )?;
+        text.push_str(&format!(in alloc;
+            "{comma}{{\"bit\":{bit},\"lock\":false,\"region\":0,\"update\":\"preserve\",\"width\":8}}"
+        )?)?;
     }
     text.push_str("],\"firmware\":[")?;
     if firmware {
@@ -293,15 +293,11 @@ fn largest(alloc: Global, firmware: bool) -> Result<String, Fail> {
         for i in 0..4096u32 {
             let comma = if i == 0 { "" } else { "," };
             let field = i % 256;
-            text.push_str(
-                &format!(in alloc; "{comma}[\"write\",{field},18446744073709551615]")?,
-            )?;
+            text.push_str(&format!(in alloc; "{comma}[\"write\",{field},18446744073709551615]")?)?;
         }
         text.push_str("]")?;
     }
-    text.push_str(
-        "],\"gpe\":{\"base1\":0,\"gpe0\":2,\"gpe1\":0},\"regions\":[{\"bytes\":[255",
-    )?;
+    text.push_str("],\"gpe\":{\"base1\":0,\"gpe0\":2,\"gpe1\":0},\"regions\":[{\"bytes\":[255")?;
     for _ in 1..4096 {
         text.push_str(",255")?;
     }

@@ -19,7 +19,8 @@ pub trait Sink {
     /// The bytes that were taken so far, where the sink tells them.
     ghost held: { Self → Option (List ℕ) };
 
-    /// How often the sink has failed. It never falls, and it may stand still at 2^64 - 1.
+    /// How often the sink has failed. It never falls, and it may stand still at 2^64 - 1. A call that does not answer
+    /// `Failed` leaves it as it was, so no failure is passed over.
     ghost faults: { Self → ℕ };
 
     /// Takes some bytes from the front of a piece that is not empty.

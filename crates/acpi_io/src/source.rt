@@ -26,7 +26,8 @@ pub trait Source {
     /// The bytes that are still to come, where the source tells them.
     ghost left: { Self → Option (List ℕ) };
 
-    /// How often the source has failed. It never falls, and it may stand still at 2^64 - 1.
+    /// How often the source has failed. It never falls, and it may stand still at 2^64 - 1. A call that does not answer
+    /// `Failed` leaves it as it was, so no failure is passed over.
     ghost faults: { Self → ℕ };
 
     /// How often the source was read. One that does not count says 0.

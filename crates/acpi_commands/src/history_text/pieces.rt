@@ -47,7 +47,7 @@ impl Pieces {
             (self.old ++ text.now) self.new result }
         ensures later { K.faults sink.old ≤ K.faults sink.new }
         ensures cause { OnErr result (Rose (K.faults sink.old) (K.faults sink.new)) }
-    ensures told { OnOk result (K.faults sink.new ≡ K.faults sink.old) }
+        ensures told { OnOk result (K.faults sink.new ≡ K.faults sink.old) }
     {
         let mut rest = text;
         while !rest.is_empty() {
@@ -66,7 +66,7 @@ impl Pieces {
             (self.old ++ text.now) self.new result }
         ensures later { K.faults sink.old ≤ K.faults sink.new }
         ensures cause { OnErr result (Rose (K.faults sink.old) (K.faults sink.new)) }
-    ensures told { OnOk result (K.faults sink.new ≡ K.faults sink.old) }
+        ensures told { OnOk result (K.faults sink.new ≡ K.faults sink.old) }
     {
         self.waiting.try_extend_from_slice(text).unwrap();
         if !self.waiting.is_full() {
@@ -82,7 +82,7 @@ impl Pieces {
         ensures ends { WritesAll (K.held sink.old) (K.held sink.new) self result }
         ensures later { K.faults sink.old ≤ K.faults sink.new }
         ensures cause { OnErr result (Rose (K.faults sink.old) (K.faults sink.new)) }
-    ensures told { OnOk result (K.faults sink.new ≡ K.faults sink.old) }
+        ensures told { OnOk result (K.faults sink.new ≡ K.faults sink.old) }
     {
         write_all(sink, self.waiting.as_slice())
     }

@@ -1,4 +1,4 @@
-use Rattle.std.proofs.Common.{◌≡◌, ◌≤◌, ◌++◌, take}
+use Rattle.std.proofs.Common.{◌≡◌, ◌++◌, take}
 use Rattle.acpi_commands.specs.Text.{entry_lines}
 use Rattle.acpi_commands.specs.Written.{Leaves}
 use Rattle.acpi_commands.proofs.history_text.log.put_entries.Given as goal

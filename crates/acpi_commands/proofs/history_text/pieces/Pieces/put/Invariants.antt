@@ -1,4 +1,4 @@
-use Rattle.std.proofs.Common.{◌≡◌, ◌≤◌, ℕ, ◌++◌, List, length}
+use Rattle.std.proofs.Common.{◌≡◌, ℕ, ◌++◌, List, length}
 use Rattle.acpi_commands.specs.Written.{Leaves}
 use Rattle.acpi_commands.proofs.history_text.pieces.Pieces.put.Given as goal
 
