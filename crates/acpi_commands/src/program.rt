@@ -14,9 +14,9 @@ const MAX_DESCRIPTION: usize = 4_194_304;
 ///
 /// The one command is `run`: it reads a description from the source, runs its machine, and writes the log of what
 /// happened to the sink. Refusals come in this order: `Usage`; `ReadFault` or `TooLarge`, as the reading meets them;
-/// `NotJson`; `NotBuilt`; `WriteFault`. `Memory` may come in place of the last three, before the machine runs, where the
-/// word is `run`, no read failed and no more bytes were taken than a description may have. After every refusal but
-/// `WriteFault` nothing was written, and after that one a front of the log was.
+/// `NotJson`; `NotBuilt`; `WriteFault`. `Memory` may come in place of each but `Usage`, before the machine runs, and only
+/// where the word is `run`, no read failed and no more bytes were taken than a description may have. After every
+/// refusal but `WriteFault` nothing was written, and after that one a front of the log was.
 pub fn acpi_events<S: Source, K: Sink>(
     alloc: Global,
     words: &[String],
