@@ -1,25 +1,12 @@
 //! The program `acpi_events`: it reads a machine's description on standard input, runs the machine, and writes the
 //! history of what happened as a log on standard output.
 //!
-//! All that it does stands in [`program::acpi_events`], a call over any source and sink whose contract says what each
-//! status means (`specs/Run.antt`). `main` hands it the words, the standard streams and the allocator. The crate
-//! stands on `machine_core`, `machine_desc`, `acpi_io` and `acpi_regs`. Its reader of descriptions
-//! (`specs/Description.antt`, `specs/Canonical.antt`) and its log text (`specs/Text.antt`) are modules of their own.
+//! All that it does stands in `acpi_commands`, which says what each status means. `main` hands it the words, the
+//! standard streams and the allocator.
 #![tactic(auto)]
 
-mod history_text;
-mod machine_reader;
-mod play;
-mod prepared;
-mod program;
-mod run;
-mod status;
-#[cfg(test)]
-mod tests;
-
+use acpi_commands::{Status, acpi_events, end};
 use acpi_io::{StdSink, StdSource};
-use program::acpi_events;
-use status::Status;
 use std::process::ExitCode;
 use std::{env, io};
 
@@ -32,11 +19,7 @@ fn main(rt: HostRuntime) -> ExitCode {
         // A word that is no text.
         Err(_) => Status::Usage,
     };
-    if status != Status::Ok {
-        // Where even this can't be told, the number still says it.
-        let _ = eprintln!(rt; "acpi_events: {status}");
-    }
-    ExitCode::from(status.code())
+    end(&status, &mut StdSink::new(rt.stderr()))
 }
 
 /// The words of the command line behind the program's name.

@@ -26,4 +26,9 @@ abbrev pub ReadsAll : ℕ → Option (List ℕ) → Option (List ℕ) → Result
 ReadsAll limit old new (Ok v) = (length v.items ≤ limit) × Consumes old new v.items × IsAtEnd new
 ReadsAll limit old new (Err fault.ReadFault) = TakesUpTo limit old new
 ReadsAll limit old new (Err fault.TooLarge) = TakesExactly (limit + 1) old new
-ReadsAll limit old new (Err fault.Memory) = TakesUpTo (limit + 1) old new
+ReadsAll limit old new (Err fault.Memory) = TakesUpTo limit old new
+
+-- A reading asked at most once more often than it got bytes.
+abbrev pub AsksOncePerByte : (old new : Option (List ℕ)) → (before now : ℕ) → Result (Vec ℕ Global) ReadAllFault → Type 0
+AsksOncePerByte old new before now (Ok v) = now ≤ before + (length v.items + 1)
+AsksOncePerByte old new before now (Err _) = (bytes : List ℕ) × Consumes old new bytes × (now ≤ before + (length bytes + 1))

@@ -6,12 +6,16 @@
 //! [`MemorySink`] keep their bytes in memory and fail where they are told to, and [`StdSource`] and [`StdSink`]
 //! stand over the readers and writers of `std`.
 //!
+//! Where no fault is answered, none came: the count is as it was. The laws in [`laws`] say that values which compare
+//! as equal are equal.
+//!
 //! It stands on `acpi_regs`, for the error for want of memory, and on `std`. Its contracts are the definitions in
 //! `specs/`: `Rose` of a count of faults; `ReadTakes` and `ReadsAll` of the bytes that a source has left;
 //! `WriteAdds` and `WritesAll` of the bytes that a sink holds; and, exactly, what the next call of a source or a
 //! sink in memory answers and what it leaves.
 #![tactic(auto)]
 
+pub mod laws;
 mod memory_sink;
 mod memory_source;
 mod sink;

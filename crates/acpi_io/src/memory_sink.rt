@@ -96,6 +96,7 @@ impl Sink for MemorySink {
         ensures bytes { WriteAdds result (Some self.old.held) (Some self.new.held) piece.now }
         ensures later { self.old.faults ≤ self.new.faults }
         ensures cause { result ≡ WriteOutcome.Failed → Rose self.old.faults self.new.faults }
+        ensures told { ¬ result ≡ WriteOutcome.Failed → self.new.faults ≡ self.old.faults }
 
         // Exactly what is answered, and what is held.
         ensures outcome { result ≡ write_outcome self.old (length piece.now) }

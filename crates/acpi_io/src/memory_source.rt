@@ -74,6 +74,7 @@ impl Source for MemorySource {
         ensures bytes { ReadTakes result (Some self.old.left) (Some self.new.left) into.new }
         ensures later { self.old.faults ≤ self.new.faults }
         ensures cause { result ≡ ReadOutcome.Failed → Rose self.old.faults self.new.faults }
+        ensures told { ¬ result ≡ ReadOutcome.Failed → self.new.faults ≡ self.old.faults }
         ensures asked { self.new.calls ≤ self.old.calls + 1 }
 
         // Exactly what is answered, and what is left.

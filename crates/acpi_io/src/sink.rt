@@ -1,4 +1,4 @@
-ghost use Rattle.std.specs.Prelude.{◌≡◌, ℕ, ◌<◌, ◌≤◌, [], List, Option, length, IsOk, OnErr};
+ghost use Rattle.std.specs.Prelude.{◌≡◌, ℕ, ◌<◌, ◌≤◌, [], List, Option, length, IsOk, OnErr, OnOk};
 ghost use Rattle.acpi_io.specs.Faults.{Rose};
 ghost use Rattle.acpi_io.specs.Sink.{WriteAdds, WritesAll};
 
@@ -6,7 +6,7 @@ use std::error::Error;
 use std::fmt;
 
 /// What a write to a [`Sink`] came to.
-#[derive(Clone, Copy, Debug, PartialEq, Eq)]
+#[derive(Debug, Drop, PartialEq)]
 pub enum WriteOutcome {
     /// So many bytes were taken, at least one, from the front of the piece.
     Took(usize),
@@ -19,7 +19,8 @@ pub trait Sink {
     /// The bytes that were taken so far, where the sink tells them.
     ghost held: { Self → Option (List ℕ) };
 
-    /// How often the sink has failed. It never falls, and it may stand still at 2^64 - 1.
+    /// How often the sink has failed. It never falls, and it may stand still at 2^64 - 1. A call that does not answer
+    /// `Failed` leaves it as it was, so no failure is passed over.
     ghost faults: { Self → ℕ };
 
     /// Takes some bytes from the front of a piece that is not empty.
@@ -27,11 +28,12 @@ pub trait Sink {
         requires { 0 < length piece.now }
         ensures bytes { WriteAdds result (held self.old) (held self.new) piece.now }
         ensures later { faults self.old ≤ faults self.new }
-        ensures cause { result ≡ WriteOutcome.Failed → Rose (faults self.old) (faults self.new) };
+        ensures cause { result ≡ WriteOutcome.Failed → Rose (faults self.old) (faults self.new) }
+        ensures told { ¬ result ≡ WriteOutcome.Failed → faults self.new ≡ faults self.old };
 }
 
 /// A write failed.
-#[derive(Clone, Copy, Debug, PartialEq, Eq)]
+#[derive(Debug, Drop, PartialEq)]
 pub struct WriteFault;
 
 impl fmt::Display for WriteFault {
@@ -49,6 +51,9 @@ pub fn write_all<K: Sink>(sink: &mut K, bytes: &[u8]) -> Result<(), WriteFault>
     ensures ends { WritesAll (K.held sink.old) (K.held sink.new) bytes.now result }
     ensures later { K.faults sink.old ≤ K.faults sink.new }
     ensures cause { OnErr result (Rose (K.faults sink.old) (K.faults sink.new)) }
+
+    // No fault is passed over.
+    ensures told { OnOk result (K.faults sink.new ≡ K.faults sink.old) }
     ensures empty { bytes.now ≡ [] → IsOk result × (sink.new ≡ sink.old) }
 {
     let mut rest = bytes;

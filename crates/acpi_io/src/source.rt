@@ -1,7 +1,7 @@
 ghost use Rattle.std.specs.Prelude.{◌≡◌, ℕ, ◌+◌, ◌<◌, ◌≤◌, List, Option, length, IfOk, IsErrOf};
 ghost use Rattle.acpi_io.specs.declared.source.ReadAllFault.TheVariants.{Memory};
 ghost use Rattle.acpi_io.specs.Faults.{Rose};
-ghost use Rattle.acpi_io.specs.Source.{ReadTakes, ReadsAll};
+ghost use Rattle.acpi_io.specs.Source.{AsksOncePerByte, ReadTakes, ReadsAll};
 
 use std::alloc::{AllocError, Global};
 use std::error::Error;
@@ -11,7 +11,7 @@ use std::fmt;
 const PIECE: usize = 65536;
 
 /// What a read of a [`Source`] came to.
-#[derive(Clone, Copy, Debug, PartialEq, Eq)]
+#[derive(Debug, Drop, PartialEq)]
 pub enum ReadOutcome {
     /// So many bytes were read, at least one, into the front of the buffer.
     Took(usize),
@@ -26,7 +26,8 @@ pub trait Source {
     /// The bytes that are still to come, where the source tells them.
     ghost left: { Self → Option (List ℕ) };
 
-    /// How often the source has failed. It never falls, and it may stand still at 2^64 - 1.
+    /// How often the source has failed. It never falls, and it may stand still at 2^64 - 1. A call that does not answer
+    /// `Failed` leaves it as it was, so no failure is passed over.
     ghost faults: { Self → ℕ };
 
     /// How often the source was read. One that does not count says 0.
@@ -38,17 +39,18 @@ pub trait Source {
         ensures bytes { ReadTakes result (left self.old) (left self.new) into.new }
         ensures later { faults self.old ≤ faults self.new }
         ensures cause { result ≡ ReadOutcome.Failed → Rose (faults self.old) (faults self.new) }
+        ensures told { ¬ result ≡ ReadOutcome.Failed → faults self.new ≡ faults self.old }
         ensures asked { reads self.new ≤ reads self.old + 1 };
 }
 
 /// Why [`read_all`] did not read a source to its end.
-#[derive(Clone, Copy, Debug, PartialEq, Eq)]
+#[derive(Debug, Drop, PartialEq)]
 pub enum ReadAllFault {
     /// A read failed.
     ReadFault,
     /// There are more bytes than the limit. One byte more than the limit was taken.
     TooLarge,
-    /// Memory ran out. The bytes that were taken are lost.
+    /// Memory ran out, with no more bytes taken than the limit. They are lost.
     Memory,
 }
 
@@ -75,7 +77,8 @@ impl From<AllocError> for ReadAllFault {
 /// Reads a source to its end and gives all its bytes, which may be up to `limit`.
 ///
 /// It answers `ReadFault` where a read failed, `TooLarge` where there are more bytes than `limit`, and `Memory`
-/// where memory ran out. After any of them the bytes that were taken are lost.
+/// where memory ran out, which is told of no read that failed and of no bytes past the limit. After any of them the
+/// bytes that were taken are lost.
 pub fn read_all<S: Source>(
     alloc: Global,
     source: &mut S,
@@ -87,8 +90,14 @@ pub fn read_all<S: Source>(
     ensures cause { IsErrOf result ReadAllFault.ReadFault →
         Rose (S.faults source.old) (S.faults source.new) }
 
+    // No fault is passed over, or told as something else.
+    ensures told { ¬ IsErrOf result ReadAllFault.ReadFault →
+        S.faults source.new ≡ S.faults source.old }
+
     // Each read but the last took a byte.
     ensures turns { S.reads source.new ≤ S.reads source.old + limit + 1 }
+    ensures asked { AsksOncePerByte (S.left source.old) (S.left source.new)
+        (S.reads source.old) (S.reads source.new) result }
 {
     let mut piece = empty_piece(alloc)?;
     read_pieces(alloc, source, limit, piece.as_mut_slice())
@@ -113,7 +122,11 @@ fn read_pieces<S: Source>(
     ensures later { S.faults source.old ≤ S.faults source.new }
     ensures cause { IsErrOf result ReadAllFault.ReadFault →
         Rose (S.faults source.old) (S.faults source.new) }
+    ensures told { ¬ IsErrOf result ReadAllFault.ReadFault →
+        S.faults source.new ≡ S.faults source.old }
     ensures turns { S.reads source.new ≤ S.reads source.old + limit + 1 }
+    ensures asked { AsksOncePerByte (S.left source.old) (S.left source.new)
+        (S.reads source.old) (S.reads source.new) result }
 {
     let mut bytes = Vec::new(alloc);
     loop {
@@ -122,11 +135,12 @@ fn read_pieces<S: Source>(
         let (into, _) = piece.split_at_mut(room);
         match source.read(into) {
             ReadOutcome::Took(count) => {
-                let (taken, _) = into.split_at(count);
-                bytes.extend_from_slice(taken)?;
-                if bytes.len() > limit {
+                // Before memory is asked for, so that want of it never stands for too many bytes.
+                if count > limit - bytes.len() {
                     return Err(ReadAllFault::TooLarge);
                 }
+                let (taken, _) = into.split_at(count);
+                bytes.extend_from_slice(taken)?;
             }
             ReadOutcome::End => return Ok(bytes),
             ReadOutcome::Failed => return Err(ReadAllFault::ReadFault),

@@ -40,6 +40,8 @@ impl<R: Read> Source for StdSource<R> {
         ensures later { read_faults self.old ≤ read_faults self.new }
         ensures cause { result ≡ ReadOutcome.Failed →
             Rose (read_faults self.old) (read_faults self.new) }
+        ensures told { ¬ result ≡ ReadOutcome.Failed →
+            read_faults self.new ≡ read_faults self.old }
 
         // What the reader tells is passed on, and each failure is counted once.
         ensures passed_on { ReadTakes result (R.remaining (reader_of self.old))
@@ -88,6 +90,8 @@ impl<W: Write> Sink for StdSink<W> {
         ensures later { write_faults self.old ≤ write_faults self.new }
         ensures cause { result ≡ WriteOutcome.Failed →
             Rose (write_faults self.old) (write_faults self.new) }
+        ensures told { ¬ result ≡ WriteOutcome.Failed →
+            write_faults self.new ≡ write_faults self.old }
 
         // What the writer tells is passed on, and each failure is counted once.
         ensures passed_on { WriteAdds result (W.contents (writer_of self.old))

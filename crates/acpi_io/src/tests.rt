@@ -184,6 +184,56 @@ fn a_writer_that_takes_nothing_or_errs_is_a_write_fault(rt: HostRuntime) {
     assert_eq!(rt; write_all(&mut sink, b"b"), Err(WriteFault));
 }
 
+// It fails once, and works from then on.
+#[derive(Drop)]
+struct FailsOnce {
+    kind: Option<ErrorKind>,
+}
+
+impl Read for FailsOnce {
+    fn read(&mut self, buf: &mut [u8]) -> io::Result<usize> {
+        match self.kind.take() {
+            Some(kind) => Err(io::Error::from(kind)),
+            None => Ok(buf.len()),
+        }
+    }
+}
+
+impl Write for FailsOnce {
+    fn write(&mut self, buf: &[u8]) -> io::Result<usize> {
+        match self.kind.take() {
+            Some(kind) => Err(io::Error::from(kind)),
+            None => Ok(buf.len()),
+        }
+    }
+
+    fn flush(&mut self) -> io::Result<()> {
+        Ok(())
+    }
+}
+
+#[test]
+fn an_error_is_told_at_once_though_the_next_call_works(rt: HostRuntime) {
+    for kind in [
+        ErrorKind::Interrupted,
+        ErrorKind::WouldBlock,
+        ErrorKind::BrokenPipe,
+    ] {
+        let mut source = StdSource::new(FailsOnce { kind: Some(kind) });
+        assert_eq!(rt; source.read(&mut [0u8; 4]), ReadOutcome::Failed);
+        assert_eq!(rt; source.read(&mut [0u8; 4]), ReadOutcome::Took(4));
+        let mut sink = StdSink::new(FailsOnce { kind: Some(kind) });
+        assert_eq!(rt; sink.write(b"ab"), WriteOutcome::Failed);
+        assert_eq!(rt; sink.write(b"ab"), WriteOutcome::Took(2));
+        let mut source = StdSource::new(FailsOnce { kind: Some(kind) });
+        let fault = read_all(rt.alloc(), &mut source, 100).err();
+        assert_eq!(rt; fault, Some(ReadAllFault::ReadFault));
+        let mut sink = StdSink::new(FailsOnce { kind: Some(kind) });
+        assert_eq!(rt; write_all(&mut sink, b"ab"), Err(WriteFault));
+        assert_eq!(rt; write_all(&mut sink, b"ab"), Ok(()));
+    }
+}
+
 #[test]
 fn a_fault_prints_its_name(rt: HostRuntime) -> Result<(), Fail> {
     let alloc = rt.alloc();

@@ -1,6 +1,6 @@
 //! Laws over the definitions of this crate, each for every machine and history. A law is a function with nothing
-//! to do, whose contract says it.
-ghost use Rattle.std.specs.Prelude.{◌↔◌, ◌≤◌, List, length, IsTrue};
+//! to do, whose contract says it; that of a comparison makes the comparison.
+ghost use Rattle.std.specs.Prelude.{◌≡◌, ◌↔◌, ◌≤◌, List, length, IsTrue};
 ghost use Rattle.acpi_regs.specs.declared.actor.Actor.{Actor};
 ghost use Rattle.acpi_regs.specs.declared.entry.Cell.{Cell};
 ghost use Rattle.acpi_regs.specs.declared.entry.Entry.{Entry};
@@ -9,6 +9,8 @@ ghost use Rattle.machine_desc.specs.Rules.{is_machine};
 ghost use Rattle.machine_core.specs.Complete.{Complete, ReadsLast, ScriptsOnce};
 ghost use Rattle.machine_core.specs.Legal.{EachAllowed, Legal};
 ghost use Rattle.machine_core.specs.Sentences.{IsFirstLeft, IsLastByte};
+
+use crate::LogRule;
 
 /// A history is legal exactly where each of its entries is allowed after those before it.
 pub fn law_legal_each()
@@ -44,3 +46,10 @@ pub fn law_next_act()
     ensures { (m : MachineData) (history : List Entry) (a : Actor)
         → Legal m history → IsFirstLeft m history a }
 {}
+
+/// Conditions of the table of entries are equal, by `==`, exactly where they are the same.
+pub fn law_log_rules_equal(one: &LogRule, other: &LogRule) -> bool
+    ensures { IsTrue result ↔ (one.now ≡ other.now) }
+{
+    one == other
+}

@@ -1,5 +1,5 @@
 /// The condition of the table of entries that an entry fails.
-#[derive(Clone, Copy, Debug, PartialEq, Eq)]
+#[derive(Debug, Drop, PartialEq)]
 pub enum LogRule {
     /// The machine has no such actor, or the actor may not make such an entry.
     Actor,

@@ -9,7 +9,7 @@ use std::alloc::Global;
 use std::marker::Model;
 
 /// Why no machine was made of a description's parts.
-#[derive(Clone, Copy, Debug, PartialEq, Eq)]
+#[derive(Debug, Drop, PartialEq)]
 pub enum MachineError {
     /// The parts obey not all rules of the first form, the only one that is built today.
     NotBuilt,

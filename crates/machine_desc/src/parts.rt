@@ -6,7 +6,7 @@ use acpi_regs::{Cell, Memory};
 use std::marker::Model;
 
 /// What stands behind a region's cells (ACPI 6.5, section 5.5.2.4).
-#[derive(Clone, Copy, Debug, PartialEq, Eq)]
+#[derive(Clone, Copy, Debug, PartialEq)]
 pub enum RegionKind {
     /// Plain memory.
     Memory,
@@ -15,7 +15,7 @@ pub enum RegionKind {
 }
 
 /// What becomes of the other bits of a byte when a field in it is written (ACPI 6.5, section 19.6.48).
-#[derive(Clone, Copy, Debug, PartialEq, Eq)]
+#[derive(Clone, Copy, Debug, PartialEq)]
 pub enum UpdateRule {
     Preserve,
     WriteAsOnes,
@@ -77,7 +77,7 @@ pub struct Region {
 }
 
 /// A field: some bits of a region, and how they are accessed (ACPI 6.5, section 19.6.48).
-#[derive(Clone, Copy, Debug, PartialEq, Eq)]
+#[derive(Clone, Copy, Debug, PartialEq)]
 pub struct FieldPart {
     /// The place of its region in the description.
     pub region: u8,

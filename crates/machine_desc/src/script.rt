@@ -5,7 +5,7 @@ use acpi_regs::Cell;
 use std::marker::Model;
 
 /// One operation of a script. A field is named by its place in the description.
-#[derive(Clone, Copy, Debug, PartialEq, Eq)]
+#[derive(Clone, Copy, Debug, PartialEq)]
 pub enum Op {
     /// Read a field.
     Read(u16),
@@ -14,7 +14,7 @@ pub enum Op {
 }
 
 /// What a script does next to its machine.
-#[derive(Clone, Copy, Debug, PartialEq, Eq)]
+#[derive(Clone, Copy, Debug, PartialEq)]
 pub enum Act {
     /// Read the byte of a cell.
     Read(Cell),

@@ -19,6 +19,6 @@ loop-rest-preserved g c =
     let within : c.in-Took.count ≤ length c.loop-rest.rest.now = c.in-Took.ensures.bytes.1 in
     record {
       added = (front ++ taken, c.loop-rest.invariant.added.1 ∙ ap (λ (l : List ℕ). front ++ l) split ∙ sym (append_assoc front taken c.split_at.result.1.now), Appends-append _ (g.K.Sink.held c.loop-rest.sink) _ front taken c.loop-rest.invariant.added.2 c.in-Took.ensures.bytes.2);
-      later = omega arith;
+      kept = c.in-Took.ensures.told (λ same. cc) ∙ c.loop-rest.invariant.kept;
       untouched = λ none. absurd (not_empty _ front _ c.loop-rest.invariant.added.1 (omega arith) none);
     }

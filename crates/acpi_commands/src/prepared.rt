@@ -1,0 +1,12 @@
+ghost use Rattle.std.specs.Prelude.{◌≡◌};
+ghost use Rattle.acpi_commands.specs.Canonical.{canonical};
+
+use machine_core::Board;
+
+/// A machine that is ready to run: its board, with all room taken, and its canonical text.
+#[derive(Drop)]
+pub struct Prepared {
+    pub board: Board,
+    pub text: Vec<u8>,
+    ghost canonical_text: { text.items ≡ canonical board.machine },
+}

@@ -1,0 +1,93 @@
+ghost use Rattle.std.specs.Prelude.{◌≡◌, ◌+◌, ◌≤◌, ◌↔◌, IsTrue};
+ghost use Rattle.acpi_io.specs.Faults.{Rose};
+ghost use Rattle.acpi_commands.specs.Run.{Answers, Completes, IsRun, limit};
+
+use crate::run::run;
+use crate::status::Status;
+use acpi_io::{ReadAllFault, Sink, Source, read_all};
+use std::alloc::Global;
+
+/// The greatest number of bytes in a description.
+const MAX_DESCRIPTION: usize = 4_194_304;
+
+/// Does what the words say, and answers how it went.
+///
+/// The one command is `run`: it reads a description from the source, runs its machine, and writes the log of what
+/// happened to the sink. Refusals come in this order: `Usage`; `ReadFault` or `TooLarge`, as the reading meets them;
+/// `NotJson`; `NotBuilt`; `WriteFault`. `Memory` may come in place of each but `Usage`, before the machine runs, and only
+/// where the word is `run`, no read failed and no more bytes were taken than a description may have. After every
+/// refusal but `WriteFault` nothing was written, and after that one a front of the log was.
+pub fn acpi_events<S: Source, K: Sink>(
+    alloc: Global,
+    words: &[String],
+    source: &mut S,
+    sink: &mut K,
+) -> Status
+    ensures answers { Answers words.now (source.new ≡ source.old) (sink.new ≡ sink.old)
+        (S.left source.old) (S.left source.new) (K.held sink.old) (K.held sink.new) result }
+
+    // A fault comes only where its count rose in this call.
+    ensures read_fault { result ≡ Status.ReadFault
+        → Rose (S.faults source.old) (S.faults source.new) }
+    ensures write_fault { result ≡ Status.WriteFault
+        → Rose (K.faults sink.old) (K.faults sink.new) }
+
+    // Each fault is told: where another status is answered, none came.
+    ensures read_told { ¬ result ≡ Status.ReadFault
+        → S.faults source.new ≡ S.faults source.old }
+    ensures write_told { ¬ result ≡ Status.WriteFault
+        → K.faults sink.new ≡ K.faults sink.old }
+
+    // What is accepted is run, where memory suffices.
+    ensures completes { Completes words.now (S.left source.old)
+        (Rose (S.faults source.old) (S.faults source.new))
+        (Rose (K.faults sink.old) (K.faults sink.new)) result }
+
+    ensures source_later { S.faults source.old ≤ S.faults source.new }
+    ensures sink_later { K.faults sink.old ≤ K.faults sink.new }
+    ensures reads { S.reads source.new ≤ S.reads source.old + (limit + 1) }
+{
+    answer(alloc, words, source, sink)
+}
+
+/// `acpi_events`, whose clause on completeness follows from these.
+fn answer<S: Source, K: Sink>(
+    alloc: Global,
+    words: &[String],
+    source: &mut S,
+    sink: &mut K,
+) -> Status
+    ensures answers { Answers words.now (source.new ≡ source.old) (sink.new ≡ sink.old)
+        (S.left source.old) (S.left source.new) (K.held sink.old) (K.held sink.new) result }
+    ensures read_fault { result ≡ Status.ReadFault
+        → Rose (S.faults source.old) (S.faults source.new) }
+    ensures write_fault { result ≡ Status.WriteFault
+        → Rose (K.faults sink.old) (K.faults sink.new) }
+    ensures read_told { ¬ result ≡ Status.ReadFault
+        → S.faults source.new ≡ S.faults source.old }
+    ensures write_told { ¬ result ≡ Status.WriteFault
+        → K.faults sink.new ≡ K.faults sink.old }
+    ensures source_later { S.faults source.old ≤ S.faults source.new }
+    ensures sink_later { K.faults sink.old ≤ K.faults sink.new }
+    ensures reads { S.reads source.new ≤ S.reads source.old + (limit + 1) }
+{
+    if !is_run(words) {
+        return Status::Usage;
+    }
+    match read_all(alloc, source, MAX_DESCRIPTION) {
+        Ok(bytes) => run(alloc, &bytes, sink),
+        Err(ReadAllFault::ReadFault) => Status::ReadFault,
+        Err(ReadAllFault::TooLarge) => Status::TooLarge,
+        Err(ReadAllFault::Memory) => Status::Memory,
+    }
+}
+
+/// Whether the words are exactly the word `run`.
+fn is_run(words: &[String]) -> bool
+    ensures { IsTrue result ↔ IsRun words.now }
+{
+    match words {
+        [word] => word.as_str() == "run",
+        _ => false,
+    }
+}

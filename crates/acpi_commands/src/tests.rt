@@ -1,0 +1,378 @@
+//! The program over sources and sinks in memory.
+use crate::{Status, acpi_events, end};
+use acpi_io::{MemorySink, MemorySource, ReadOutcome, Source};
+use std::alloc::{AllocError, Global};
+use std::process::ExitCode;
+use std::test::Fail;
+
+/// The machine with nothing in it.
+const EMPTY: &str =
+    "{\"controller\":null,\"devices\":[],\"events\":[],\"fields\":[],\"firmware\":[],\"gpe\":{\"base1\":0,\"gpe0\":2,\"gpe1\":0},\"regions\":[],\"schedule\":[],\"version\":1,\"workers\":1}";
+
+/// Its log.
+const EMPTY_LOG: &str =
+    "machine {\"controller\":null,\"devices\":[],\"events\":[],\"fields\":[],\"firmware\":[],\"gpe\":{\"base1\":0,\"gpe0\":2,\"gpe1\":0},\"regions\":[],\"schedule\":[],\"version\":1,\"workers\":1}\nrest 0\n";
+
+/// A byte of memory that a firmware script writes and then reads.
+const TWO: &str =
+    "{\"controller\":null,\"devices\":[],\"events\":[],\"fields\":[{\"bit\":0,\"lock\":false,\"region\":0,\"update\":\"preserve\",\"width\":8}],\"firmware\":[[[\"write\",0,90],[\"read\",0]]],\"gpe\":{\"base1\":0,\"gpe0\":2,\"gpe1\":0},\"regions\":[{\"bytes\":[],\"kind\":\"memory\",\"len\":1}],\"schedule\":[],\"version\":1,\"workers\":1}";
+
+/// Its log.
+const TWO_LOG: &str =
+    "machine {\"controller\":null,\"devices\":[],\"events\":[],\"fields\":[{\"bit\":0,\"lock\":false,\"region\":0,\"update\":\"preserve\",\"width\":8}],\"firmware\":[[[\"write\",0,90],[\"read\",0]]],\"gpe\":{\"base1\":0,\"gpe0\":2,\"gpe1\":0},\"regions\":[{\"bytes\":[],\"kind\":\"memory\",\"len\":1}],\"schedule\":[],\"version\":1,\"workers\":1}\nf0 write 00:0000 5A\nf0 read 00:0000 5A\nrest 2\n";
+
+/// What a call answered, what its sink then held, and how often the sink was called.
+#[derive(Drop)]
+struct Outcome {
+    status: Status,
+    held: Vec<u8>,
+    writes: u64,
+}
+
+/// Which calls of a source and of a sink fail, and the most bytes that each call moves.
+#[derive(Clone, Copy)]
+struct Faults {
+    read: Option<u64>,
+    write: Option<u64>,
+    most: usize,
+}
+
+const NO_FAULTS: Faults = Faults {
+    read: None,
+    write: None,
+    most: 65536,
+};
+
+fn numbers(alloc: Global, number: Option<u64>) -> Result<Vec<u64>, AllocError> {
+    let mut numbers = Vec::new(alloc);
+    if let Some(number) = number {
+        numbers.push(number)?;
+    }
+    Ok(numbers)
+}
+
+fn words(alloc: Global, texts: &[&str]) -> Result<Vec<String>, AllocError> {
+    let mut words = Vec::new(alloc);
+    for text in texts {
+        words.push(String::from_str(alloc, text)?)?;
+    }
+    Ok(words)
+}
+
+/// Runs the program with the word `run`.
+fn run(alloc: Global, description: &[u8], faults: Faults) -> Result<Outcome, Fail> {
+    let most = faults.most.max(1);
+    let words = words(alloc, &["run"])?;
+    let bytes = description.to_vec(alloc)?;
+    let mut source = MemorySource::new(bytes, numbers(alloc, faults.read)?, most);
+    let mut sink = MemorySink::new(alloc, numbers(alloc, faults.write)?, most, 1 << 20)?;
+    let status = acpi_events(alloc, &words, &mut source, &mut sink);
+    Ok(Outcome {
+        status,
+        held: sink.held().to_vec(alloc)?,
+        writes: sink.writes(),
+    })
+}
+
+#[test]
+fn the_empty_machine_and_two_accesses_run(rt: HostRuntime) -> Result<(), Fail> {
+    for (description, log) in [(EMPTY, EMPTY_LOG), (TWO, TWO_LOG)] {
+        for most in [1, 7, 16, 65536] {
+            let outcome = run(
+                rt.alloc(),
+                description.as_bytes(),
+                Faults { most, ..NO_FAULTS },
+            )?;
+            assert_eq!(rt; outcome.status, Status::Ok);
+            assert!(rt; outcome.held.as_slice() == log.as_bytes(), "{description}");
+        }
+    }
+    Ok(())
+}
+
+#[test]
+fn what_is_no_json_and_what_is_not_built_is_refused(rt: HostRuntime) -> Result<(), Fail> {
+    let cases = [
+        ("{\"version\":1", Status::NotJson),
+        ("", Status::NotJson),
+        ("[]", Status::NotBuilt),
+        (
+            "{\"controller\":null,\"devices\":[],\"events\":[],\"fields\":[],\"firmware\":[],\"gpe\":{\"base1\":0,\"gpe0\":2,\"gpe1\":0},\"regions\":[],\"schedule\":[],\"version\":1,\"workers\":2}",
+            Status::NotBuilt,
+        ),
+    ];
+    for (description, status) in cases {
+        let outcome = run(rt.alloc(), description.as_bytes(), NO_FAULTS)?;
+        assert_eq!(rt; outcome.status, status, "{description}");
+        assert!(rt; outcome.held.is_empty());
+        assert_eq!(rt; outcome.writes, 0);
+    }
+    Ok(())
+}
+
+#[test]
+fn every_cut_description_is_no_json(rt: HostRuntime) -> Result<(), Fail> {
+    let bytes = TWO.as_bytes();
+    for len in 0..bytes.len() {
+        let outcome = run(rt.alloc(), &bytes[..len], NO_FAULTS)?;
+        assert_eq!(rt; outcome.status, Status::NotJson, "the first {len} bytes");
+        assert!(rt; outcome.held.is_empty());
+    }
+    Ok(())
+}
+
+/// A read that fails is answered with nothing written; where no call has that number the run goes to its end.
+#[test]
+fn a_failing_read_is_a_read_fault(rt: HostRuntime) -> Result<(), Fail> {
+    let bytes = TWO.as_bytes();
+    for most in [1, 7, 16] {
+        // The calls that bring bytes, and the one that finds the end.
+        let calls = bytes.len().div_ceil(most) as u64 + 1;
+        for number in 0..calls {
+            let faults = Faults {
+                read: Some(number),
+                write: None,
+                most,
+            };
+            let outcome = run(rt.alloc(), bytes, faults)?;
+            assert_eq!(rt;
+                outcome.status,
+                Status::ReadFault,
+                "read {number} of at most {most}"
+            );
+            assert_eq!(rt; outcome.writes, 0);
+        }
+        let outcome = run(
+            rt.alloc(),
+            bytes,
+            Faults {
+                read: Some(calls),
+                write: None,
+                most,
+            },
+        )?;
+        assert_eq!(rt; outcome.status, Status::Ok);
+    }
+    let first = Faults {
+        read: Some(0),
+        ..NO_FAULTS
+    };
+    let outcome = run(rt.alloc(), EMPTY.as_bytes(), first)?;
+    assert_eq!(rt; outcome.status, Status::ReadFault);
+    assert_eq!(rt; outcome.writes, 0);
+    Ok(())
+}
+
+/// A write that fails leaves what the writes before it took.
+#[test]
+fn a_failing_write_is_a_write_fault(rt: HostRuntime) -> Result<(), Fail> {
+    let log = TWO_LOG.as_bytes();
+    for most in [1usize, 7, 16] {
+        for number in 0..log.len().div_ceil(most) {
+            let faults = Faults {
+                read: None,
+                write: Some(number as u64),
+                most,
+            };
+            let outcome = run(rt.alloc(), TWO.as_bytes(), faults)?;
+            assert_eq!(rt;
+                outcome.status,
+                Status::WriteFault,
+                "write {number} of at most {most}"
+            );
+            assert_eq!(rt; outcome.held.len(), number.saturating_mul(most));
+            assert!(rt; log.starts_with(&outcome.held));
+        }
+    }
+    Ok(())
+}
+
+#[test]
+fn a_sink_with_no_room_left_is_a_write_fault(rt: HostRuntime) -> Result<(), Fail> {
+    let alloc = rt.alloc();
+    let words = words(alloc, &["run"])?;
+    let mut source = MemorySource::new(TWO.as_bytes().to_vec(alloc)?, Vec::new(alloc), 100);
+    let mut sink = MemorySink::new(alloc, Vec::new(alloc), 16, 32)?;
+    assert_eq!(rt;
+        acpi_events(alloc, &words, &mut source, &mut sink),
+        Status::WriteFault
+    );
+    assert!(rt; sink.held() == &TWO_LOG.as_bytes()[..32]);
+    Ok(())
+}
+
+/// A source that counts how often it is asked, and has nothing to give.
+#[derive(Drop)]
+struct Unread {
+    reads: u64,
+}
+
+impl Source for Unread {
+    ghost use Rattle.std.specs.Prelude.{None};
+
+    ghost left = { λ _. None };
+
+    ghost faults = { λ _. 0 };
+
+    ghost reads = { λ s. s.reads };
+
+    fn read(&mut self, _into: &mut [u8]) -> ReadOutcome {
+        self.reads = self.reads.saturating_add(1);
+        ReadOutcome::End
+    }
+}
+
+#[test]
+fn words_that_are_no_command_leave_the_source_unread(rt: HostRuntime) -> Result<(), Fail> {
+    let alloc = rt.alloc();
+    let cases: [&[&str]; 6] = [
+        &[],
+        &["run", "now"],
+        &["--help"],
+        &["Run"],
+        &[""],
+        &["run", ""],
+    ];
+    for texts in cases {
+        let words = words(alloc, texts)?;
+        let mut source = Unread { reads: 0 };
+        let mut sink = MemorySink::new(alloc, Vec::new(alloc), 1, 8)?;
+        assert_eq!(rt;
+            acpi_events(alloc, &words, &mut source, &mut sink),
+            Status::Usage
+        );
+        assert_eq!(rt; source.reads, 0);
+        assert_eq!(rt; sink.writes(), 0);
+    }
+    Ok(())
+}
+
+#[test]
+fn one_byte_more_than_a_description_may_have_is_too_large(rt: HostRuntime) -> Result<(), Fail> {
+    for (len, status) in [(4_194_304, Status::NotJson), (4_194_305, Status::TooLarge)] {
+        let spaces = vec![in rt.alloc(); b' '; len]?;
+        let outcome = run(rt.alloc(), &spaces, NO_FAULTS)?;
+        assert_eq!(rt; outcome.status, status);
+        assert_eq!(rt; outcome.writes, 0);
+    }
+    Ok(())
+}
+
+/// A description whose one script has so many operations, each a write of 1 to the same byte.
+fn many_writes(alloc: Global, count: u32) -> Result<String, AllocError> {
+    let mut text = String::from_str(
+        alloc,
+        "{\"controller\":null,\"devices\":[],\"events\":[],\"fields\":[{\"bit\":0,\"lock\":false,\"region\":0,\"update\":\"ones\",\"width\":8}],\"firmware\":[[[\"write\",0,257]",
+    )?;
+    for _ in 1..count {
+        text.push_str(",[\"write\",0,257]")?;
+    }
+    text.push_str(
+        "]],\"gpe\":{\"base1\":0,\"gpe0\":2,\"gpe1\":0},\"regions\":[{\"bytes\":[],\"kind\":\"memory\",\"len\":1}],\"schedule\":[],\"version\":1,\"workers\":1}",
+    )?;
+    Ok(text)
+}
+
+/// A description with all that the limits allow: a region of 4,096 cells, each with its byte, 256 fields, and, where
+/// there is firmware, a script of 4,096 writes of the greatest value.
+fn largest(alloc: Global, firmware: bool) -> Result<String, Fail> {
+    let mut text = String::from_str(
+        alloc,
+        "{\"controller\":null,\"devices\":[],\"events\":[],\"fields\":[",
+    )?;
+    for i in 0..256u32 {
+        let comma = if i == 0 { "" } else { "," };
+        let bit = i * 128;
+        text.push_str(&format!(in alloc;
+            "{comma}{{\"bit\":{bit},\"lock\":false,\"region\":0,\"update\":\"preserve\",\"width\":8}}"
+        )?)?;
+    }
+    text.push_str("],\"firmware\":[")?;
+    if firmware {
+        text.push_str("[")?;
+        for i in 0..4096u32 {
+            let comma = if i == 0 { "" } else { "," };
+            let field = i % 256;
+            text.push_str(&format!(in alloc; "{comma}[\"write\",{field},18446744073709551615]")?)?;
+        }
+        text.push_str("]")?;
+    }
+    text.push_str("],\"gpe\":{\"base1\":0,\"gpe0\":2,\"gpe1\":0},\"regions\":[{\"bytes\":[255")?;
+    for _ in 1..4096 {
+        text.push_str(",255")?;
+    }
+    text.push_str(
+        "],\"kind\":\"memory\",\"len\":4096}],\"schedule\":[],\"version\":1,\"workers\":1}",
+    )?;
+    Ok(text)
+}
+
+#[test]
+fn the_largest_description_runs(rt: HostRuntime) -> Result<(), Fail> {
+    let alloc = rt.alloc();
+    for firmware in [true, false] {
+        let description = largest(alloc, firmware)?;
+        let mut log = String::from_str(alloc, "machine ")?;
+        log.push_str(&description)?;
+        log.push_str("\n")?;
+        if firmware {
+            for i in 0..4096u32 {
+                let offset = i % 256 * 16;
+                log.push_str(&format!(in alloc; "f0 write 00:{offset:04X} FF\n")?)?;
+            }
+        }
+        log.push_str(if firmware { "rest 4096\n" } else { "rest 0\n" })?;
+        let outcome = run(alloc, description.as_bytes(), NO_FAULTS)?;
+        assert_eq!(rt; outcome.status, Status::Ok);
+        assert!(rt; outcome.held.as_slice() == log.as_bytes());
+    }
+    Ok(())
+}
+
+#[test]
+fn a_log_of_4096_entries_reaches_the_sink_in_few_writes(rt: HostRuntime) -> Result<(), Fail> {
+    let description = many_writes(rt.alloc(), 4096)?;
+    let outcome = run(rt.alloc(), description.as_bytes(), NO_FAULTS)?;
+    assert_eq!(rt; outcome.status, Status::Ok);
+    assert!(rt; outcome.writes < 100, "{} writes", outcome.writes);
+    assert!(rt;
+        outcome
+            .held
+            .ends_with(b"\nf0 write 00:0000 01\nrest 4096\n")
+    );
+    let description = many_writes(rt.alloc(), 4097)?;
+    let outcome = run(rt.alloc(), description.as_bytes(), NO_FAULTS)?;
+    assert_eq!(rt; outcome.status, Status::NotBuilt);
+    Ok(())
+}
+
+#[test]
+fn each_status_has_its_code_and_name(rt: HostRuntime) -> Result<(), Fail> {
+    let table = [
+        (Status::Ok, 0, "Ok"),
+        (Status::Usage, 2, "Usage"),
+        (Status::NotJson, 3, "NotJson"),
+        (Status::NotBuilt, 12, "NotBuilt"),
+        (Status::ReadFault, 5, "ReadFault"),
+        (Status::WriteFault, 6, "WriteFault"),
+        (Status::Memory, 7, "Memory"),
+        (Status::TooLarge, 9, "TooLarge"),
+    ];
+    let alloc = rt.alloc();
+    for (status, code, name) in table {
+        assert_eq!(rt; status.code(), code);
+        let text = format!(in alloc; "{status}")?;
+        assert!(rt; text.as_str() == name);
+        let line = if code == 0 {
+            String::new(alloc)
+        } else {
+            format!(in alloc; "acpi_events: {name}\n")?
+        };
+        let mut errors = MemorySink::new(alloc, Vec::new(alloc), 7, 64)?;
+        assert_eq!(rt; end(&status, &mut errors), ExitCode::from(code));
+        assert!(rt; errors.held() == line.as_bytes(), "{name}");
+        let mut broken = MemorySink::new(alloc, Vec::new(alloc), 7, 0)?;
+        assert_eq!(rt; end(&status, &mut broken), ExitCode::from(code));
+    }
+    Ok(())
+}

@@ -1,6 +1,0 @@
-use Rattle.acpi_events.proofs.RunLemmas.{completes}
-use Rattle.acpi_events.proofs.program.acpi_events.Goals as goal
-
-pub returns-clause-completes : goal.returns-clause-completes
-returns-clause-completes g c =
-    completes c.args.words.now _ _ _ _ _ _ _ _ c.answer.result c.answer.ensures.answers c.answer.ensures.read_fault c.answer.ensures.write_fault

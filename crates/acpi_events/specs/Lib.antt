@@ -1,5 +1,0 @@
-pub mod Canonical
-pub mod Description
-pub mod Run
-pub mod Text
-pub mod Written
