@@ -1,0 +1,2 @@
+pub mod CodesInOrder
+pub mod Status

@@ -1,0 +1,71 @@
+-- Lists of calls: the query codes over all of them, and what the status register tells.
+use Rattle.std.specs.Prelude.{ℕ, ◌<◌, ◌≡◌, ◌==◌, Bool, not, List, [], ◌∷◌, ◌++◌, length, All, bit_and, Option, Some, None, is_some, if◌then◌else◌}
+use Rattle.ec_chip.specs.declared.parts.Half.{Half}
+use Rattle.ec_chip.specs.declared.parts.Half.TheVariants as half
+use Rattle.ec_chip.specs.declared.parts.Port.{Port}
+use Rattle.ec_chip.specs.Chip.{ChipData, status_bits, after_write, after_read, after_step, after_push, after_calm}
+use Rattle.ec_chip.specs.Parts.{first_code}
+
+pub data Call : Type 0 where
+  Write : Port → ℕ → Call
+  Read : Call
+  Step : Call
+  Push : ℕ → Call
+  Calm : Call
+
+abbrev pub after_call : Call → ChipData → ChipData
+after_call (Write p byte) c = after_write p byte c
+after_call Read c = after_read c
+after_call Step c = after_step c
+after_call (Push q) c = after_push q c
+after_call Calm c = after_calm c
+
+abbrev pub after_calls : List Call → ChipData → ChipData
+after_calls [] c = c
+after_calls (call ∷ later) c = after_calls later (after_call call c)
+
+-- ---- query codes
+
+-- 00 is no code
+abbrev pub code : ℕ → List ℕ
+code q = if q == 0 then [] else q ∷ []
+
+-- a query is given the first code
+abbrev pub given_on : Half → Option ℕ → List ℕ → List ℕ
+given_on half.Nothing (Some byte) codes = if byte == 132 then code (first_code codes) else []
+given_on _ _ codes = []
+
+abbrev pub given_by : Call → ChipData → List ℕ
+given_by Step c = given_on c.exchange.half c.exchange.input c.codes
+given_by _ c = []
+
+abbrev pub given : List Call → ChipData → List ℕ
+given [] c = []
+given (call ∷ later) c = given_by call c ++ given later (after_call call c)
+
+abbrev pub pushed : List Call → List ℕ
+pushed [] = []
+pushed (Push q ∷ later) = q ∷ pushed later
+pushed (_ ∷ later) = pushed later
+
+abbrev pub AreCodes : List ℕ → Type 0
+AreCodes codes = All (λ q. 0 < q) codes
+
+-- each code is given once and in its order: the codes that were given, and those that wait, are those that waited
+-- at first, and those that were pushed
+abbrev pub GivesInOrder : List Call → ChipData → Type 0
+GivesInOrder calls c =
+    AreCodes c.codes → AreCodes (pushed calls) → given calls c ++ (after_calls calls c).codes ≡ c.codes ++ pushed calls
+
+-- ---- the status register (ACPI 6.5, section 12.2.1)
+
+abbrev pub has_flag : ChipData → ℕ → Bool
+has_flag c flag = bit_and (status_bits c) flag == flag
+
+-- each flag is set exactly where its sentence holds
+pub record TellsStatus (c : ChipData) : Type 0 where
+  pub obf : has_flag c 1 ≡ is_some c.exchange.output
+  pub ibf : has_flag c 2 ≡ is_some c.exchange.input
+  pub cmd : has_flag c 8 ≡ c.command
+  pub burst : has_flag c 16 ≡ c.burst
+  pub sci_evt : has_flag c 32 ≡ not (length c.codes == 0)
