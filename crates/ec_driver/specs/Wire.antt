@@ -1,0 +1,45 @@
+-- The moves of a transaction with the controller, and what each does to what is on its way (ACPI 6.5, section 12.3).
+use Rattle.std.specs.Prelude.{ℕ, List, [], ◌∷◌, Option, Some, None, unwrap_or}
+use Rattle.acpi_regs.specs.declared.entry.Effect.TheVariants as effect
+use Rattle.acpi_regs.specs.declared.entry.HostMove.TheVariants as host
+use Rattle.acpi_regs.specs.declared.entry.Request.{Request}
+use Rattle.acpi_regs.specs.declared.entry.Request.TheVariants as request
+use Rattle.ec_chip.specs.Chip.{Exchange}
+use Rattle.ec_chip.specs.Parts.{half_after, output_after}
+use Rattle.ec_driver.specs.declared.wire.Move.{Move}
+use Rattle.ec_driver.specs.declared.wire.Move.TheVariants as move
+
+-- a command without further bytes, and its answer
+abbrev pub answered : ℕ → ℕ → List Move
+answered command v = move.Host (host.Sc command) ∷ move.Ctl (effect.Out v) ∷ move.Host (host.Get v) ∷ []
+
+-- The moves of a request, in order. The byte v fills the blank of a read and of a query.
+-- RD_EC 80h, WR_EC 81h, BE_EC 82h with its acknowledge 90h, BD_EC 83h, QR_EC 84h.
+abbrev pub wire : Request → ℕ → List Move
+wire (request.Rd x) v = move.Host (host.Sc 128) ∷ move.Ctl effect.Taken ∷ move.Host (host.Data x) ∷ move.Ctl (effect.Out v) ∷ move.Host (host.Get v) ∷ []
+wire (request.Wr x w) v = move.Host (host.Sc 129) ∷ move.Ctl effect.Taken ∷ move.Host (host.Data x) ∷ move.Ctl effect.Taken ∷ move.Host (host.Data w) ∷ move.Ctl effect.Put ∷ []
+wire request.Be v = answered 130 144
+wire request.Bd v = move.Host (host.Sc 131) ∷ move.Ctl effect.Taken ∷ []
+wire request.Qr v = answered 132 v
+
+-- what the requester is given once all moves are made
+abbrev pub carried : Request → ℕ → Option ℕ
+carried (request.Rd x) v = Some v
+carried (request.Wr x w) v = None
+carried request.Be v = Some 144
+carried request.Bd v = None
+carried request.Qr v = Some v
+
+-- A write of the host's waits to be taken, and a read takes the output away. The controller takes the byte that
+-- waits. It makes no move of a request when it leaves burst mode of its own accord.
+abbrev pub exchange_by : Move → Exchange → Exchange
+exchange_by (move.Host (host.Sc byte)) e = record e { input = Some byte }
+exchange_by (move.Host (host.Data byte)) e = record e { input = Some byte }
+exchange_by (move.Host (host.Get byte)) e = record e { output = None }
+exchange_by (move.Ctl effect.Calm) e = e
+exchange_by (move.Ctl done) e = record { half = half_after e.half (unwrap_or e.input 0); input = None; output = output_after done e.output }
+
+-- what these moves leave on its way
+abbrev pub exchange_from : List Move → Exchange → Exchange
+exchange_from [] e = e
+exchange_from (m ∷ later) e = exchange_from later (exchange_by m e)
