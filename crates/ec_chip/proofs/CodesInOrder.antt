@@ -1,11 +1,11 @@
 -- Each query code is given once and in its order, whatever calls are made.
-use Rattle.std.proofs.Common.{ℕ, ◌<◌, ◌≡◌, ◌==◌, Bool, true, false, zero, suc, ◌+◌, List, [], ◌∷◌, ◌++◌, drop, All, Option, Some, None, if◌then◌else◌, refl, sym, ◌∙◌, ap, append_assoc, arith}
+use Rattle.std.proofs.Common.{ℕ, ◌<◌, ◌≡◌, ◌==◌, Bool, true, false, suc, List, [], ◌∷◌, ◌++◌, drop, Option, Some, None, if◌then◌else◌, refl, sym, ◌∙◌, ap, append_assoc, arith}
 use Rattle.std.proofs.lemmas.Bool.{ne_eqb}
 use Rattle.std.proofs.lemmas.List.{append-nil}
 use Rattle.std.proofs.lemmas.List.Elements.{All-drop, All-push}
 use Rattle.ec_chip.specs.declared.parts.Half.{Half}
 use Rattle.ec_chip.specs.declared.parts.Half.TheVariants as half
-use Rattle.ec_chip.specs.Calls.{Call, Write, Read, Step, Push, Calm, after_call, after_calls, code, given, given_by, given_on, pushed, AreCodes, GivesInOrder}
+use Rattle.ec_chip.specs.Calls.{Call, Write, Read, Step, Push, Calm, after_call, code, given_by, given_on, pushed, AreCodes, GivesInOrder}
 use Rattle.ec_chip.specs.Chip.{ChipData, stepped_by, after_step}
 use Rattle.ec_chip.specs.Parts.{codes_after, first_code}
 

@@ -1,5 +1,5 @@
 -- Lists of calls: the query codes over all of them, and what the status register tells.
-use Rattle.std.specs.Prelude.{ℕ, ◌<◌, ◌≡◌, ◌==◌, Bool, not, List, [], ◌∷◌, ◌++◌, length, All, bit_and, Option, Some, None, is_some, if◌then◌else◌}
+use Rattle.std.specs.Prelude.{ℕ, ◌<◌, ◌≡◌, ◌==◌, Bool, not, List, [], ◌∷◌, ◌++◌, length, All, bit_and, Option, Some, is_some, if◌then◌else◌}
 use Rattle.ec_chip.specs.declared.parts.Half.{Half}
 use Rattle.ec_chip.specs.declared.parts.Half.TheVariants as half
 use Rattle.ec_chip.specs.declared.parts.Port.{Port}

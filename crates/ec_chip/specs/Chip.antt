@@ -1,5 +1,5 @@
 -- The controller as contracts see it, and what each call does to it (ACPI 6.5, chapter 12).
-use Rattle.std.specs.Prelude.{ℕ, ◌+◌, ◌*◌, ◌≡◌, ◌<◌, ◌==◌, nat_le, Bool, true, false, ◌&&◌, not, List, [], ◌∷◌, ◌++◌, length, IsTrue, Option, Some, None, is_some, is_none, if◌then◌else◌}
+use Rattle.std.specs.Prelude.{ℕ, ◌+◌, ◌*◌, ◌≡◌, ◌==◌, Bool, true, false, ◌&&◌, not, List, [], ◌∷◌, ◌++◌, length, IsTrue, Option, Some, None, is_some, is_none, if◌then◌else◌}
 use Rattle.acpi_regs.specs.declared.entry.Effect.{Effect}
 use Rattle.ec_chip.specs.declared.parts.CtlOutcome.{CtlOutcome}
 use Rattle.ec_chip.specs.declared.parts.CtlOutcome.TheVariants as outcome
@@ -58,8 +58,8 @@ is_nothing half.Nothing = true
 is_nothing _ = false
 
 -- it may leave burst mode where it is in it, and nothing is on its way
-abbrev pub can_calm : ChipData → Bool
-can_calm c = c.burst && is_none c.exchange.input && is_none c.exchange.output && is_nothing c.exchange.half
+abbrev pub CanCalm : ChipData → Type 0
+CanCalm c = IsTrue c.burst × (c.exchange ≡ quiet)
 
 -- ---- what each call does
 

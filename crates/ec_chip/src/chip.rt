@@ -1,6 +1,6 @@
 ghost use Rattle.std.specs.Prelude.{All, ◌≡◌, ◌<◌, ◌≤◌, ◌≢◌, ◌==◌, length, IsTrue, IsNone, IsSome, IfOk, Some, None, nat_le, is_some, slice_index, ◌↔◌};
 ghost use Rattle.acpi_regs.specs.Flags.{ec_bits};
-ghost use Rattle.ec_chip.specs.Chip.{is_nothing, after_calm, after_push, after_read, after_step, after_taking, after_write, can_calm, can_write, effect_on, fresh, next_effect, outcome_of, status_bits};
+ghost use Rattle.ec_chip.specs.Chip.{is_nothing, after_calm, after_push, after_read, after_step, after_taking, after_write, CanCalm, can_write, effect_on, fresh, next_effect, outcome_of, quiet, status_bits};
 ghost use Rattle.ec_chip.specs.Parts.{allows, command_effect, first_code};
 
 use crate::{CtlOutcome, Half, Port};
@@ -188,16 +188,23 @@ impl EcChip {
         self.codes.push_back_reserved(code);
     }
 
+    /// Whether nothing is on its way: IBF and OBF are clear, and no command is half given.
+    pub fn is_quiet(&self) -> bool
+        ensures { IsTrue result ↔ (self.now.exchange ≡ quiet) }
+    {
+        self.input.is_none() && self.output.is_none() && is_nothing(self.half)
+    }
+
     /// Whether the controller may leave burst mode of its own accord: it is in it, and nothing is on its way.
     pub fn can_calm(&self) -> bool
-        ensures { result ≡ can_calm self.now }
+        ensures { IsTrue result ↔ CanCalm self.now }
     {
-        self.burst && self.input.is_none() && self.output.is_none() && is_nothing(self.half)
+        self.burst && self.is_quiet()
     }
 
     /// The controller leaves burst mode of its own accord (ACPI 6.5, section 12.3.3).
     pub fn calm(&mut self)
-        requires { IsTrue (can_calm self.old) }
+        requires { CanCalm self.old }
         ensures { self.new ≡ after_calm self.old }
     {
         self.burst = false;

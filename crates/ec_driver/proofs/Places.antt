@@ -67,6 +67,6 @@ host_stands t c (host.Get v) stands next =
     let moves = moves_of t c in
     let last = read_last t.asks (blank t c) n v next in
     let filled : blank t c ≡ v = ap (λ o. unwrap_or o t.got) (ap (λ e. e.output) stands ∙ last.0) in
-    let none : is_ctl (slice_get (wire t.asks 0) (n + 1)) ≡ false = rw add-one last.1 in
+    let none : is_ctl (slice_get (wire t.asks 0) (n + 1)) ≡ false = rw (add-one n) last.1 in
     let here : moves_made (transaction_by (Some (host.Get v)) n t) (chip_by (Some (host.Get v)) c) ≡ n + 1 = ap (λ b. cond (b && is_none c.exchange.input) (n + 1 + 1) (n + 1)) none in
     ap (exchange_by (move.Host (host.Get v))) stands ∙ (sym (one_more moves n _ quiet next) ∙ (ap (λ k. exchange_from (take k moves) quiet) (sym here) ∙ ap (λ b. exchange_from (take (moves_made (transaction_by (Some (host.Get v)) n t) (chip_by (Some (host.Get v)) c)) (wire t.asks b)) quiet) filled))

@@ -50,9 +50,9 @@ world_at r c n q codes command = record {
     room = c.room;
     exchange = exchange_from (take n (wire r (blank_at r c.cells q))) quiet;
     command = command;
-    burst = burst_at r n c.burst
+    burst = burst_at r n c.burst;
   };
-  moves = take n (wire r (blank_at r c.cells q))
+  moves = take n (wire r (blank_at r c.cells q));
 }
 
 -- the codes that wait, after these turns
@@ -83,11 +83,11 @@ more_codes c done t codes are =
 
 more_given : (all : List ℕ) (done : List Turn) (t : Turn) (q : ℕ) (codes : List ℕ) → GivesFirst all done q codes → GivesFirst all (done ++ t ∷ []) q (codes ++ pushed (t ∷ []))
 more_given all done t q codes g = record {
-  before = g.before;
+  earlier = g.earlier;
   later = g.later ++ t ∷ [];
-  split = sym (append_assoc g.before g.later (t ∷ [])) ∙ ap (λ l. l ++ t ∷ []) g.split;
+  split = sym (append_assoc g.earlier (Controller ∷ g.later) (t ∷ [])) ∙ ap (λ l. l ++ t ∷ []) g.split;
   first = g.first;
-  leaves = ap (λ l. l ++ pushed (t ∷ [])) g.leaves ∙ (append_assoc (drop 1 (all ++ pushed g.before)) (pushed g.later) (pushed (t ∷ [])) ∙ ap (λ l. drop 1 (all ++ pushed g.before) ++ l) (sym (pushed-append g.later (t ∷ []))))
+  leaves = ap (λ l. l ++ pushed (t ∷ [])) g.leaves ∙ (append_assoc (drop 1 (all ++ pushed g.earlier)) (pushed g.later) (pushed (t ∷ [])) ∙ ap (λ l. drop 1 (all ++ pushed g.earlier) ++ l) (sym (pushed-append g.later (t ∷ []))));
 }
 
 codes_more : (r : Request) (n : ℕ) (c : ChipData) (done : List Turn) (t : Turn) (q : ℕ) (codes : List ℕ) → CodesAt r n c done q codes → CodesAt r n c (done ++ t ∷ []) q (codes ++ pushed (t ∷ []))
@@ -137,15 +137,13 @@ host_at request.Qr c done (suc (suc (suc zero))) q codes command within are = re
 host_at request.Qr c done (suc (suc (suc (suc n)))) q codes command within are = absurd (omega arith)
 
 given_now : (c : ChipData) (done : List Turn) (codes : List ℕ) → codes ≡ c.codes ++ pushed done → GivesFirst c.codes (done ++ Controller ∷ []) (first_code codes) (drop 1 codes)
-given_now c done codes are =
-    let so : codes ≡ c.codes ++ pushed (done ++ Controller ∷ []) = codes_same request.Qr 0 c done Controller 0 codes refl are in
-    record {
-      before = done ++ Controller ∷ [];
-      later = [];
-      split = append-nil (done ++ Controller ∷ []);
-      first = ap first_code so;
-      leaves = ap (drop 1) so ∙ sym (append-nil (drop 1 (c.codes ++ pushed (done ++ Controller ∷ []))))
-    }
+given_now c done codes are = record {
+  earlier = done;
+  later = [];
+  split = refl;
+  first = ap first_code are;
+  leaves = ap (drop 1) are ∙ sym (append-nil (drop 1 (c.codes ++ pushed done)));
+}
 
 pub controller_at : (r : Request) (c : ChipData) (done : List Turn) (n q : ℕ) (codes : List ℕ) (command : Bool) → n ≤ length (wire r 0) → CodesAt r n c done q codes → Reached r c (done ++ Controller ∷ []) (after_turn Controller (world_at r c n q codes command))
 controller_at (request.Rd x) c done zero q codes command within are = record { n = 0; q = q; codes = codes; command = command; at = refl; within = within; codes_at = codes_same (request.Rd x) 0 c done Controller q codes refl are }
@@ -180,12 +178,11 @@ controller_at request.Qr c done (suc zero) q codes command within are = record {
   command = command;
   at = refl;
   within = omega arith;
-  codes_at = given_now c done codes are
+  codes_at = given_now c done codes are;
 }
 controller_at request.Qr c done (suc (suc zero)) q codes command within are = record { n = 2; q = q; codes = codes; command = command; at = refl; within = within; codes_at = codes_same request.Qr 2 c done Controller q codes refl are }
 controller_at request.Qr c done (suc (suc (suc zero))) q codes command within are = record { n = 3; q = q; codes = codes; command = command; at = refl; within = within; codes_at = codes_same request.Qr 3 c done Controller q codes refl are }
 controller_at request.Qr c done (suc (suc (suc (suc n)))) q codes command within are = absurd (omega arith)
-
 
 -- ---- every order of turns
 
@@ -201,7 +198,7 @@ reached_turn r c done (Push p) w x = record {
   command = x.command;
   at = ap (after_turn (Push p)) x.at;
   within = x.within;
-  codes_at = codes_more r x.n c done (Push p) x.q x.codes x.codes_at
+  codes_at = codes_more r x.n c done (Push p) x.q x.codes x.codes_at;
 }
 
 reached_turns : (r : Request) (c : ChipData) (turns done : List Turn) (w : World) → Reached r c done w → Reached r c (done ++ turns) (after_turns turns w)
@@ -221,41 +218,41 @@ reached r c turns rests = reached_turns r c turns [] (begun r c) (reached_start 
 
 -- ---- what each place says
 
-follows_at : (r : Request) (c : ChipData) (n q : ℕ) (codes : List ℕ) (command : Bool) → n ≤ length (wire r 0) → FollowsWire r (world_at r c n q codes command)
-follows_at (request.Rd x) c zero q codes command within = record { blank = blank_at (request.Rd x) c.cells q; left = drop 0 (wire (request.Rd x) (blank_at (request.Rd x) c.cells q)); front = refl; given = refl; stands = refl }
-follows_at (request.Rd x) c (suc zero) q codes command within = record { blank = blank_at (request.Rd x) c.cells q; left = drop 1 (wire (request.Rd x) (blank_at (request.Rd x) c.cells q)); front = refl; given = refl; stands = refl }
-follows_at (request.Rd x) c (suc (suc zero)) q codes command within = record { blank = blank_at (request.Rd x) c.cells q; left = drop 2 (wire (request.Rd x) (blank_at (request.Rd x) c.cells q)); front = refl; given = refl; stands = refl }
-follows_at (request.Rd x) c (suc (suc (suc zero))) q codes command within = record { blank = blank_at (request.Rd x) c.cells q; left = drop 3 (wire (request.Rd x) (blank_at (request.Rd x) c.cells q)); front = refl; given = refl; stands = refl }
-follows_at (request.Rd x) c (suc (suc (suc (suc zero)))) q codes command within = record { blank = blank_at (request.Rd x) c.cells q; left = drop 4 (wire (request.Rd x) (blank_at (request.Rd x) c.cells q)); front = refl; given = refl; stands = refl }
-follows_at (request.Rd x) c (suc (suc (suc (suc (suc zero))))) q codes command within = record { blank = blank_at (request.Rd x) c.cells q; left = drop 5 (wire (request.Rd x) (blank_at (request.Rd x) c.cells q)); front = refl; given = refl; stands = refl }
+follows_at : (r : Request) (c : ChipData) (n q : ℕ) (codes : List ℕ) (command : Bool) → n ≤ length (wire r 0) → FollowsWire r c (world_at r c n q codes command)
+follows_at (request.Rd x) c zero q codes command within = record { blank = blank_at (request.Rd x) c.cells q; left = drop 0 (wire (request.Rd x) (blank_at (request.Rd x) c.cells q)); front = refl; cells = refl; burst = refl; given = refl; stands = refl }
+follows_at (request.Rd x) c (suc zero) q codes command within = record { blank = blank_at (request.Rd x) c.cells q; left = drop 1 (wire (request.Rd x) (blank_at (request.Rd x) c.cells q)); front = refl; cells = refl; burst = refl; given = refl; stands = refl }
+follows_at (request.Rd x) c (suc (suc zero)) q codes command within = record { blank = blank_at (request.Rd x) c.cells q; left = drop 2 (wire (request.Rd x) (blank_at (request.Rd x) c.cells q)); front = refl; cells = refl; burst = refl; given = refl; stands = refl }
+follows_at (request.Rd x) c (suc (suc (suc zero))) q codes command within = record { blank = blank_at (request.Rd x) c.cells q; left = drop 3 (wire (request.Rd x) (blank_at (request.Rd x) c.cells q)); front = refl; cells = refl; burst = refl; given = refl; stands = refl }
+follows_at (request.Rd x) c (suc (suc (suc (suc zero)))) q codes command within = record { blank = blank_at (request.Rd x) c.cells q; left = drop 4 (wire (request.Rd x) (blank_at (request.Rd x) c.cells q)); front = refl; cells = refl; burst = refl; given = refl; stands = refl }
+follows_at (request.Rd x) c (suc (suc (suc (suc (suc zero))))) q codes command within = record { blank = blank_at (request.Rd x) c.cells q; left = drop 5 (wire (request.Rd x) (blank_at (request.Rd x) c.cells q)); front = refl; cells = refl; burst = refl; given = refl; stands = refl }
 follows_at (request.Rd x) c (suc (suc (suc (suc (suc (suc n)))))) q codes command within = absurd (omega arith)
-follows_at (request.Wr x w) c zero q codes command within = record { blank = blank_at (request.Wr x w) c.cells q; left = drop 0 (wire (request.Wr x w) (blank_at (request.Wr x w) c.cells q)); front = refl; given = refl; stands = refl }
-follows_at (request.Wr x w) c (suc zero) q codes command within = record { blank = blank_at (request.Wr x w) c.cells q; left = drop 1 (wire (request.Wr x w) (blank_at (request.Wr x w) c.cells q)); front = refl; given = refl; stands = refl }
-follows_at (request.Wr x w) c (suc (suc zero)) q codes command within = record { blank = blank_at (request.Wr x w) c.cells q; left = drop 2 (wire (request.Wr x w) (blank_at (request.Wr x w) c.cells q)); front = refl; given = refl; stands = refl }
-follows_at (request.Wr x w) c (suc (suc (suc zero))) q codes command within = record { blank = blank_at (request.Wr x w) c.cells q; left = drop 3 (wire (request.Wr x w) (blank_at (request.Wr x w) c.cells q)); front = refl; given = refl; stands = refl }
-follows_at (request.Wr x w) c (suc (suc (suc (suc zero)))) q codes command within = record { blank = blank_at (request.Wr x w) c.cells q; left = drop 4 (wire (request.Wr x w) (blank_at (request.Wr x w) c.cells q)); front = refl; given = refl; stands = refl }
-follows_at (request.Wr x w) c (suc (suc (suc (suc (suc zero))))) q codes command within = record { blank = blank_at (request.Wr x w) c.cells q; left = drop 5 (wire (request.Wr x w) (blank_at (request.Wr x w) c.cells q)); front = refl; given = refl; stands = refl }
-follows_at (request.Wr x w) c (suc (suc (suc (suc (suc (suc zero)))))) q codes command within = record { blank = blank_at (request.Wr x w) c.cells q; left = drop 6 (wire (request.Wr x w) (blank_at (request.Wr x w) c.cells q)); front = refl; given = refl; stands = refl }
+follows_at (request.Wr x w) c zero q codes command within = record { blank = blank_at (request.Wr x w) c.cells q; left = drop 0 (wire (request.Wr x w) (blank_at (request.Wr x w) c.cells q)); front = refl; cells = refl; burst = refl; given = refl; stands = refl }
+follows_at (request.Wr x w) c (suc zero) q codes command within = record { blank = blank_at (request.Wr x w) c.cells q; left = drop 1 (wire (request.Wr x w) (blank_at (request.Wr x w) c.cells q)); front = refl; cells = refl; burst = refl; given = refl; stands = refl }
+follows_at (request.Wr x w) c (suc (suc zero)) q codes command within = record { blank = blank_at (request.Wr x w) c.cells q; left = drop 2 (wire (request.Wr x w) (blank_at (request.Wr x w) c.cells q)); front = refl; cells = refl; burst = refl; given = refl; stands = refl }
+follows_at (request.Wr x w) c (suc (suc (suc zero))) q codes command within = record { blank = blank_at (request.Wr x w) c.cells q; left = drop 3 (wire (request.Wr x w) (blank_at (request.Wr x w) c.cells q)); front = refl; cells = refl; burst = refl; given = refl; stands = refl }
+follows_at (request.Wr x w) c (suc (suc (suc (suc zero)))) q codes command within = record { blank = blank_at (request.Wr x w) c.cells q; left = drop 4 (wire (request.Wr x w) (blank_at (request.Wr x w) c.cells q)); front = refl; cells = refl; burst = refl; given = refl; stands = refl }
+follows_at (request.Wr x w) c (suc (suc (suc (suc (suc zero))))) q codes command within = record { blank = blank_at (request.Wr x w) c.cells q; left = drop 5 (wire (request.Wr x w) (blank_at (request.Wr x w) c.cells q)); front = refl; cells = refl; burst = refl; given = refl; stands = refl }
+follows_at (request.Wr x w) c (suc (suc (suc (suc (suc (suc zero)))))) q codes command within = record { blank = blank_at (request.Wr x w) c.cells q; left = drop 6 (wire (request.Wr x w) (blank_at (request.Wr x w) c.cells q)); front = refl; cells = refl; burst = refl; given = refl; stands = refl }
 follows_at (request.Wr x w) c (suc (suc (suc (suc (suc (suc (suc n))))))) q codes command within = absurd (omega arith)
-follows_at request.Be c zero q codes command within = record { blank = blank_at request.Be c.cells q; left = drop 0 (wire request.Be (blank_at request.Be c.cells q)); front = refl; given = refl; stands = refl }
-follows_at request.Be c (suc zero) q codes command within = record { blank = blank_at request.Be c.cells q; left = drop 1 (wire request.Be (blank_at request.Be c.cells q)); front = refl; given = refl; stands = refl }
-follows_at request.Be c (suc (suc zero)) q codes command within = record { blank = blank_at request.Be c.cells q; left = drop 2 (wire request.Be (blank_at request.Be c.cells q)); front = refl; given = refl; stands = refl }
-follows_at request.Be c (suc (suc (suc zero))) q codes command within = record { blank = blank_at request.Be c.cells q; left = drop 3 (wire request.Be (blank_at request.Be c.cells q)); front = refl; given = refl; stands = refl }
+follows_at request.Be c zero q codes command within = record { blank = blank_at request.Be c.cells q; left = drop 0 (wire request.Be (blank_at request.Be c.cells q)); front = refl; cells = refl; burst = refl; given = refl; stands = refl }
+follows_at request.Be c (suc zero) q codes command within = record { blank = blank_at request.Be c.cells q; left = drop 1 (wire request.Be (blank_at request.Be c.cells q)); front = refl; cells = refl; burst = refl; given = refl; stands = refl }
+follows_at request.Be c (suc (suc zero)) q codes command within = record { blank = blank_at request.Be c.cells q; left = drop 2 (wire request.Be (blank_at request.Be c.cells q)); front = refl; cells = refl; burst = refl; given = refl; stands = refl }
+follows_at request.Be c (suc (suc (suc zero))) q codes command within = record { blank = blank_at request.Be c.cells q; left = drop 3 (wire request.Be (blank_at request.Be c.cells q)); front = refl; cells = refl; burst = refl; given = refl; stands = refl }
 follows_at request.Be c (suc (suc (suc (suc n)))) q codes command within = absurd (omega arith)
-follows_at request.Bd c zero q codes command within = record { blank = blank_at request.Bd c.cells q; left = drop 0 (wire request.Bd (blank_at request.Bd c.cells q)); front = refl; given = refl; stands = refl }
-follows_at request.Bd c (suc zero) q codes command within = record { blank = blank_at request.Bd c.cells q; left = drop 1 (wire request.Bd (blank_at request.Bd c.cells q)); front = refl; given = refl; stands = refl }
-follows_at request.Bd c (suc (suc zero)) q codes command within = record { blank = blank_at request.Bd c.cells q; left = drop 2 (wire request.Bd (blank_at request.Bd c.cells q)); front = refl; given = refl; stands = refl }
+follows_at request.Bd c zero q codes command within = record { blank = blank_at request.Bd c.cells q; left = drop 0 (wire request.Bd (blank_at request.Bd c.cells q)); front = refl; cells = refl; burst = refl; given = refl; stands = refl }
+follows_at request.Bd c (suc zero) q codes command within = record { blank = blank_at request.Bd c.cells q; left = drop 1 (wire request.Bd (blank_at request.Bd c.cells q)); front = refl; cells = refl; burst = refl; given = refl; stands = refl }
+follows_at request.Bd c (suc (suc zero)) q codes command within = record { blank = blank_at request.Bd c.cells q; left = drop 2 (wire request.Bd (blank_at request.Bd c.cells q)); front = refl; cells = refl; burst = refl; given = refl; stands = refl }
 follows_at request.Bd c (suc (suc (suc n))) q codes command within = absurd (omega arith)
-follows_at request.Qr c zero q codes command within = record { blank = blank_at request.Qr c.cells q; left = drop 0 (wire request.Qr (blank_at request.Qr c.cells q)); front = refl; given = refl; stands = refl }
-follows_at request.Qr c (suc zero) q codes command within = record { blank = blank_at request.Qr c.cells q; left = drop 1 (wire request.Qr (blank_at request.Qr c.cells q)); front = refl; given = refl; stands = refl }
-follows_at request.Qr c (suc (suc zero)) q codes command within = record { blank = blank_at request.Qr c.cells q; left = drop 2 (wire request.Qr (blank_at request.Qr c.cells q)); front = refl; given = refl; stands = refl }
-follows_at request.Qr c (suc (suc (suc zero))) q codes command within = record { blank = blank_at request.Qr c.cells q; left = drop 3 (wire request.Qr (blank_at request.Qr c.cells q)); front = refl; given = refl; stands = refl }
+follows_at request.Qr c zero q codes command within = record { blank = blank_at request.Qr c.cells q; left = drop 0 (wire request.Qr (blank_at request.Qr c.cells q)); front = refl; cells = refl; burst = refl; given = refl; stands = refl }
+follows_at request.Qr c (suc zero) q codes command within = record { blank = blank_at request.Qr c.cells q; left = drop 1 (wire request.Qr (blank_at request.Qr c.cells q)); front = refl; cells = refl; burst = refl; given = refl; stands = refl }
+follows_at request.Qr c (suc (suc zero)) q codes command within = record { blank = blank_at request.Qr c.cells q; left = drop 2 (wire request.Qr (blank_at request.Qr c.cells q)); front = refl; cells = refl; burst = refl; given = refl; stands = refl }
+follows_at request.Qr c (suc (suc (suc zero))) q codes command within = record { blank = blank_at request.Qr c.cells q; left = drop 3 (wire request.Qr (blank_at request.Qr c.cells q)); front = refl; cells = refl; burst = refl; given = refl; stands = refl }
 follows_at request.Qr c (suc (suc (suc (suc n)))) q codes command within = absurd (omega arith)
 
 pub follows : (r : Request) (c : ChipData) (turns : List Turn) → AlwaysFollows r c turns
 follows r c turns rests =
     let x = reached r c turns rests in
-    subst (FollowsWire r) (sym x.at) (follows_at r c x.n x.q x.codes x.command x.within)
+    subst (FollowsWire r c) (sym x.at) (follows_at r c x.n x.q x.codes x.command x.within)
 
 does_at : (r : Request) (c : ChipData) (done : List Turn) (n q : ℕ) (codes : List ℕ) (command : Bool) (taken : Option ℕ) → n ≤ length (wire r 0) → CodesAt r n c done q codes → finished (world_at r c n q codes command).driver (world_at r c n q codes command).chip ≡ Some taken → Does r c done taken (world_at r c n q codes command).chip
 does_at (request.Rd x) c done zero q codes command taken within are given = cc

@@ -87,6 +87,16 @@ abbrev pub is_not_ready : AdvanceOutcome → Bool
 is_not_ready (outcome.NotReady status) = true
 is_not_ready _ = false
 
+-- the move that was made
+abbrev pub advanced_by : AdvanceOutcome → Option HostMove
+advanced_by (outcome.Advanced m) = Some m
+advanced_by _ = None
+
+-- what the requester was given
+abbrev pub taken_of : AdvanceOutcome → Option (Option ℕ)
+taken_of (outcome.Done taken) = Some taken
+taken_of _ = None
+
 -- The host waits where a move of the controller's comes first, where its next is a write and IBF is set, and where
 -- its next is a read and OBF is clear.
 abbrev pub waits_before : ChipData → Option Move → Bool

@@ -10,7 +10,7 @@ use Rattle.ec_chip.specs.Parts.{first_code}
 use Rattle.ec_driver.specs.declared.wire.Move.{Move}
 use Rattle.ec_driver.specs.declared.wire.Move.TheVariants as move
 use Rattle.ec_driver.specs.Driver.{TransactionData, Stands, after_advance, chip_after_advance, finished, next_host, opened}
-use Rattle.ec_driver.specs.Wire.{carried, wire}
+use Rattle.ec_driver.specs.Wire.{burst_from, carried, cells_from, wire}
 
 -- the transaction, the controller, and the moves that were made, the oldest first
 pub record World : Type 0 where
@@ -32,7 +32,7 @@ host_turn None w = w
 host_turn (Some m) w = record {
   driver = after_advance w.driver w.chip;
   chip = chip_after_advance w.driver w.chip;
-  moves = w.moves ++ move.Host m ∷ []
+  moves = w.moves ++ move.Host m ∷ [];
 }
 
 abbrev pub controller_turn : Option Effect → World → World
@@ -57,28 +57,31 @@ abbrev pub is_empty : List Move → Bool
 is_empty [] = true
 is_empty (m ∷ later) = false
 
--- The moves that were made are a front of the moves of the request, with its blank filled. The requester is given what
--- the request carries exactly where they are all made. The condition of the driver's calls holds.
-pub record FollowsWire (r : Request) (w : World) : Type 0 where
+-- The moves that were made are a front of the moves of the request, with its blank filled. At every moment they tell
+-- the cells and burst mode. The requester is given what the request carries exactly where they are all made. The
+-- condition of the driver's calls holds.
+pub record FollowsWire (r : Request) (old : ChipData) (w : World) : Type 0 where
   pub blank : ℕ
   pub left : List Move
   pub front : w.moves ++ left ≡ wire r blank
+  pub cells : w.chip.cells ≡ cells_from r w.moves old.cells
+  pub burst : w.chip.burst ≡ burst_from r w.moves old.burst
   pub given : finished w.driver w.chip ≡ (if is_empty left then Some (carried r blank) else None)
   pub stands : Stands w.driver w.chip
 
 -- whatever the order of turns, from a controller with nothing on its way
 abbrev pub AlwaysFollows : Request → ChipData → List Turn → Type 0
-AlwaysFollows r c turns = c.exchange ≡ quiet → FollowsWire r (after_turns turns (begun r c))
+AlwaysFollows r c turns = c.exchange ≡ quiet → FollowsWire r c (after_turns turns (begun r c))
 
 -- ---- what a finished transaction has done
 
--- at some moment of these turns the code was the first that waited, or 00 where none did, and it left the list
-pub record GivesFirst (before_all : List ℕ) (turns : List Turn) (q : ℕ) (codes : List ℕ) : Type 0 where
-  pub before : List Turn
+-- at one of the controller's turns the code was the first that waited, or 00 where none did, and it left the list
+pub record GivesFirst (first_codes : List ℕ) (turns : List Turn) (q : ℕ) (codes : List ℕ) : Type 0 where
+  pub earlier : List Turn
   pub later : List Turn
-  pub split : before ++ later ≡ turns
-  pub first : q ≡ first_code (before_all ++ pushed before)
-  pub leaves : codes ≡ drop 1 (before_all ++ pushed before) ++ pushed later
+  pub split : earlier ++ Controller ∷ later ≡ turns
+  pub first : q ≡ first_code (first_codes ++ pushed earlier)
+  pub leaves : codes ≡ drop 1 (first_codes ++ pushed earlier) ++ pushed later
 
 -- the cells, the query codes and burst mode of a controller
 pub record Has (c : ChipData) (cells codes : List ℕ) (burst : Bool) : Type 0 where

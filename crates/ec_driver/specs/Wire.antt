@@ -1,5 +1,5 @@
 -- The moves of a transaction with the controller, and what each does to what is on its way (ACPI 6.5, section 12.3).
-use Rattle.std.specs.Prelude.{ℕ, List, [], ◌∷◌, Option, Some, None, unwrap_or}
+use Rattle.std.specs.Prelude.{ℕ, Bool, true, false, slice_set, List, [], ◌∷◌, Option, Some, None, unwrap_or}
 use Rattle.acpi_regs.specs.declared.entry.Effect.TheVariants as effect
 use Rattle.acpi_regs.specs.declared.entry.HostMove.TheVariants as host
 use Rattle.acpi_regs.specs.declared.entry.Request.{Request}
@@ -43,3 +43,22 @@ exchange_by (move.Ctl done) e = record { half = half_after e.half (unwrap_or e.i
 abbrev pub exchange_from : List Move → Exchange → Exchange
 exchange_from [] e = e
 exchange_from (m ∷ later) e = exchange_from later (exchange_by m e)
+
+-- the byte of a write stands in its cell from the controller's last move
+abbrev pub cells_by : Request → Move → List ℕ → List ℕ
+cells_by (request.Wr x w) (move.Ctl effect.Put) cells = slice_set cells x w
+cells_by r m cells = cells
+
+abbrev pub cells_from : Request → List Move → List ℕ → List ℕ
+cells_from r [] cells = cells
+cells_from r (m ∷ later) cells = cells_from r later (cells_by r m cells)
+
+-- burst mode is on from the acknowledge of burst enable, and off once burst disable is taken
+abbrev pub burst_by : Request → Move → Bool → Bool
+burst_by request.Be (move.Ctl (effect.Out v)) old = true
+burst_by request.Bd (move.Ctl effect.Taken) old = false
+burst_by r m old = old
+
+abbrev pub burst_from : Request → List Move → Bool → Bool
+burst_from r [] old = old
+burst_from r (m ∷ later) old = burst_from r later (burst_by r m old)

@@ -5,10 +5,12 @@
 //! moves, whoever has a turn when.
 #![tactic(auto)]
 
+pub mod laws;
 mod transaction;
 mod wire;
 
-pub mod laws;
-
 pub use transaction::{AdvanceOutcome, Transaction};
 pub use wire::Move;
+
+#[cfg(test)]
+mod tests;

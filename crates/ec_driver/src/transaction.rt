@@ -1,9 +1,9 @@
 ghost use Rattle.std.specs.Prelude.{◌≡◌, ◌↔◌, ◌+◌, IsNone, IsSome, IsTrue, is_some, Some};
 ghost use Rattle.ec_chip.specs.Chip.{quiet};
-ghost use Rattle.ec_driver.specs.Driver.{Stands, advance_outcome, after_advance, all_made, blank, chip_after_advance, chip_by, finished, is_done, is_not_ready, moves_made, must_wait, next_host, next_move, opened, status_of, transaction_by};
+ghost use Rattle.ec_driver.specs.Driver.{Stands, advance_outcome, advanced_by, after_advance, all_made, blank, chip_after_advance, chip_by, finished, is_done, is_not_ready, moves_made, must_wait, next_host, next_move, opened, status_of, taken_of, transaction_by};
 
-use crate::wire::{carried, wire_move};
 use crate::Move;
+use crate::wire::{carried, wire_move};
 use acpi_regs::{EcStatus, HostMove, Request};
 use bitflags::Flags;
 use ec_chip::{EcChip, Port};
@@ -63,6 +63,8 @@ impl Transaction {
     pub fn advance(&mut self, chip: &mut EcChip) -> AdvanceOutcome
         requires { Stands self.old chip.old }
         ensures outcome { result ≡ advance_outcome self.old chip.old }
+        ensures host { advanced_by result ≡ next_host self.old chip.old }
+        ensures taken { taken_of result ≡ finished self.old chip.old }
         ensures done { IsTrue (is_done result) ↔ all_made self.old chip.old }
         ensures not_ready { is_not_ready result ≡ must_wait self.old chip.old }
         ensures transaction { self.new ≡ after_advance self.old chip.old }

@@ -1,5 +1,5 @@
-use Rattle.std.proofs.Common.{◌≡◌, refl, not, sym, ◌∙◌, ap}
-use Rattle.ec_chip.proofs.Status.{one_by_one, one_by_one-sum, set_bit}
+use Rattle.std.proofs.Common.{refl, not, ◌∙◌, ap}
+use Rattle.ec_chip.proofs.Status.{one_by_one-sum, set_bit}
 use Rattle.ec_chip.proofs.chip.EcChip.status.Goals as goal
 
 pub returns : goal.returns
