@@ -260,7 +260,7 @@ does_at (request.Rd x) c done (suc zero) q codes command taken within are given 
 does_at (request.Rd x) c done (suc (suc zero)) q codes command taken within are given = cc
 does_at (request.Rd x) c done (suc (suc (suc zero))) q codes command taken within are given = cc
 does_at (request.Rd x) c done (suc (suc (suc (suc zero)))) q codes command taken within are given = cc
-does_at (request.Rd x) c done (suc (suc (suc (suc (suc zero))))) q codes command taken within are given = (cc, record { cells_are = refl; codes_are = are; burst_is = refl })
+does_at (request.Rd x) c done (suc (suc (suc (suc (suc zero))))) q codes command taken within are given = (cc, record { cells_are = refl; codes_are = are; burst_is = refl; rests = refl })
 does_at (request.Rd x) c done (suc (suc (suc (suc (suc (suc n)))))) q codes command taken within are given = absurd (omega arith)
 does_at (request.Wr x w) c done zero q codes command taken within are given = cc
 does_at (request.Wr x w) c done (suc zero) q codes command taken within are given = cc
@@ -268,21 +268,21 @@ does_at (request.Wr x w) c done (suc (suc zero)) q codes command taken within ar
 does_at (request.Wr x w) c done (suc (suc (suc zero))) q codes command taken within are given = cc
 does_at (request.Wr x w) c done (suc (suc (suc (suc zero)))) q codes command taken within are given = cc
 does_at (request.Wr x w) c done (suc (suc (suc (suc (suc zero))))) q codes command taken within are given = cc
-does_at (request.Wr x w) c done (suc (suc (suc (suc (suc (suc zero)))))) q codes command taken within are given = (cc, record { cells_are = refl; codes_are = are; burst_is = refl })
+does_at (request.Wr x w) c done (suc (suc (suc (suc (suc (suc zero)))))) q codes command taken within are given = (cc, record { cells_are = refl; codes_are = are; burst_is = refl; rests = refl })
 does_at (request.Wr x w) c done (suc (suc (suc (suc (suc (suc (suc n))))))) q codes command taken within are given = absurd (omega arith)
 does_at request.Be c done zero q codes command taken within are given = cc
 does_at request.Be c done (suc zero) q codes command taken within are given = cc
 does_at request.Be c done (suc (suc zero)) q codes command taken within are given = cc
-does_at request.Be c done (suc (suc (suc zero))) q codes command taken within are given = (cc, record { cells_are = refl; codes_are = are; burst_is = refl })
+does_at request.Be c done (suc (suc (suc zero))) q codes command taken within are given = (cc, record { cells_are = refl; codes_are = are; burst_is = refl; rests = refl })
 does_at request.Be c done (suc (suc (suc (suc n)))) q codes command taken within are given = absurd (omega arith)
 does_at request.Bd c done zero q codes command taken within are given = cc
 does_at request.Bd c done (suc zero) q codes command taken within are given = cc
-does_at request.Bd c done (suc (suc zero)) q codes command taken within are given = (cc, record { cells_are = refl; codes_are = are; burst_is = refl })
+does_at request.Bd c done (suc (suc zero)) q codes command taken within are given = (cc, record { cells_are = refl; codes_are = are; burst_is = refl; rests = refl })
 does_at request.Bd c done (suc (suc (suc n))) q codes command taken within are given = absurd (omega arith)
 does_at request.Qr c done zero q codes command taken within are given = cc
 does_at request.Qr c done (suc zero) q codes command taken within are given = cc
 does_at request.Qr c done (suc (suc zero)) q codes command taken within are given = cc
-does_at request.Qr c done (suc (suc (suc zero))) q codes command taken within are given = (q, cc, are, record { cells_are = refl; codes_are = refl; burst_is = refl })
+does_at request.Qr c done (suc (suc (suc zero))) q codes command taken within are given = (q, cc, are, record { cells_are = refl; codes_are = refl; burst_is = refl; rests = refl })
 does_at request.Qr c done (suc (suc (suc (suc n)))) q codes command taken within are given = absurd (omega arith)
 
 pub does : (r : Request) (c : ChipData) (turns : List Turn) → AlwaysDoes r c turns

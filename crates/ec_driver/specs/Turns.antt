@@ -83,11 +83,12 @@ pub record GivesFirst (first_codes : List ℕ) (turns : List Turn) (q : ℕ) (co
   pub first : q ≡ first_code (first_codes ++ pushed earlier)
   pub leaves : codes ≡ drop 1 (first_codes ++ pushed earlier) ++ pushed later
 
--- the cells, the query codes and burst mode of a controller
+-- the cells, the query codes and burst mode of a controller with nothing on its way
 pub record Has (c : ChipData) (cells codes : List ℕ) (burst : Bool) : Type 0 where
   pub cells_are : c.cells ≡ cells
   pub codes_are : c.codes ≡ codes
   pub burst_is : c.burst ≡ burst
+  pub rests : c.exchange ≡ quiet
 
 -- A read gives the byte of its cell. A write leaves its byte in the cell, and no other cell changes. Burst enable
 -- turns burst mode on, and burst disable turns it off. A query gives a code and takes it out of the list. Else only
