@@ -219,34 +219,34 @@ reached r c turns rests = reached_turns r c turns [] (begun r c) (reached_start 
 -- ---- what each place says
 
 follows_at : (r : Request) (c : ChipData) (n q : ℕ) (codes : List ℕ) (command : Bool) → n ≤ length (wire r 0) → FollowsWire r c (world_at r c n q codes command)
-follows_at (request.Rd x) c zero q codes command within = record { blank = blank_at (request.Rd x) c.cells q; left = drop 0 (wire (request.Rd x) (blank_at (request.Rd x) c.cells q)); front = refl; cells = refl; burst = refl; given = refl; stands = refl }
-follows_at (request.Rd x) c (suc zero) q codes command within = record { blank = blank_at (request.Rd x) c.cells q; left = drop 1 (wire (request.Rd x) (blank_at (request.Rd x) c.cells q)); front = refl; cells = refl; burst = refl; given = refl; stands = refl }
-follows_at (request.Rd x) c (suc (suc zero)) q codes command within = record { blank = blank_at (request.Rd x) c.cells q; left = drop 2 (wire (request.Rd x) (blank_at (request.Rd x) c.cells q)); front = refl; cells = refl; burst = refl; given = refl; stands = refl }
-follows_at (request.Rd x) c (suc (suc (suc zero))) q codes command within = record { blank = blank_at (request.Rd x) c.cells q; left = drop 3 (wire (request.Rd x) (blank_at (request.Rd x) c.cells q)); front = refl; cells = refl; burst = refl; given = refl; stands = refl }
-follows_at (request.Rd x) c (suc (suc (suc (suc zero)))) q codes command within = record { blank = blank_at (request.Rd x) c.cells q; left = drop 4 (wire (request.Rd x) (blank_at (request.Rd x) c.cells q)); front = refl; cells = refl; burst = refl; given = refl; stands = refl }
-follows_at (request.Rd x) c (suc (suc (suc (suc (suc zero))))) q codes command within = record { blank = blank_at (request.Rd x) c.cells q; left = drop 5 (wire (request.Rd x) (blank_at (request.Rd x) c.cells q)); front = refl; cells = refl; burst = refl; given = refl; stands = refl }
+follows_at (request.Rd x) c zero q codes command within = record { blank = blank_at (request.Rd x) c.cells q; left = drop 0 (wire (request.Rd x) (blank_at (request.Rd x) c.cells q)); front = refl; host = refl; controller = refl; cells = refl; burst = refl; given = refl; stands = refl }
+follows_at (request.Rd x) c (suc zero) q codes command within = record { blank = blank_at (request.Rd x) c.cells q; left = drop 1 (wire (request.Rd x) (blank_at (request.Rd x) c.cells q)); front = refl; host = refl; controller = refl; cells = refl; burst = refl; given = refl; stands = refl }
+follows_at (request.Rd x) c (suc (suc zero)) q codes command within = record { blank = blank_at (request.Rd x) c.cells q; left = drop 2 (wire (request.Rd x) (blank_at (request.Rd x) c.cells q)); front = refl; host = refl; controller = refl; cells = refl; burst = refl; given = refl; stands = refl }
+follows_at (request.Rd x) c (suc (suc (suc zero))) q codes command within = record { blank = blank_at (request.Rd x) c.cells q; left = drop 3 (wire (request.Rd x) (blank_at (request.Rd x) c.cells q)); front = refl; host = refl; controller = refl; cells = refl; burst = refl; given = refl; stands = refl }
+follows_at (request.Rd x) c (suc (suc (suc (suc zero)))) q codes command within = record { blank = blank_at (request.Rd x) c.cells q; left = drop 4 (wire (request.Rd x) (blank_at (request.Rd x) c.cells q)); front = refl; host = refl; controller = refl; cells = refl; burst = refl; given = refl; stands = refl }
+follows_at (request.Rd x) c (suc (suc (suc (suc (suc zero))))) q codes command within = record { blank = blank_at (request.Rd x) c.cells q; left = drop 5 (wire (request.Rd x) (blank_at (request.Rd x) c.cells q)); front = refl; host = refl; controller = refl; cells = refl; burst = refl; given = refl; stands = refl }
 follows_at (request.Rd x) c (suc (suc (suc (suc (suc (suc n)))))) q codes command within = absurd (omega arith)
-follows_at (request.Wr x w) c zero q codes command within = record { blank = blank_at (request.Wr x w) c.cells q; left = drop 0 (wire (request.Wr x w) (blank_at (request.Wr x w) c.cells q)); front = refl; cells = refl; burst = refl; given = refl; stands = refl }
-follows_at (request.Wr x w) c (suc zero) q codes command within = record { blank = blank_at (request.Wr x w) c.cells q; left = drop 1 (wire (request.Wr x w) (blank_at (request.Wr x w) c.cells q)); front = refl; cells = refl; burst = refl; given = refl; stands = refl }
-follows_at (request.Wr x w) c (suc (suc zero)) q codes command within = record { blank = blank_at (request.Wr x w) c.cells q; left = drop 2 (wire (request.Wr x w) (blank_at (request.Wr x w) c.cells q)); front = refl; cells = refl; burst = refl; given = refl; stands = refl }
-follows_at (request.Wr x w) c (suc (suc (suc zero))) q codes command within = record { blank = blank_at (request.Wr x w) c.cells q; left = drop 3 (wire (request.Wr x w) (blank_at (request.Wr x w) c.cells q)); front = refl; cells = refl; burst = refl; given = refl; stands = refl }
-follows_at (request.Wr x w) c (suc (suc (suc (suc zero)))) q codes command within = record { blank = blank_at (request.Wr x w) c.cells q; left = drop 4 (wire (request.Wr x w) (blank_at (request.Wr x w) c.cells q)); front = refl; cells = refl; burst = refl; given = refl; stands = refl }
-follows_at (request.Wr x w) c (suc (suc (suc (suc (suc zero))))) q codes command within = record { blank = blank_at (request.Wr x w) c.cells q; left = drop 5 (wire (request.Wr x w) (blank_at (request.Wr x w) c.cells q)); front = refl; cells = refl; burst = refl; given = refl; stands = refl }
-follows_at (request.Wr x w) c (suc (suc (suc (suc (suc (suc zero)))))) q codes command within = record { blank = blank_at (request.Wr x w) c.cells q; left = drop 6 (wire (request.Wr x w) (blank_at (request.Wr x w) c.cells q)); front = refl; cells = refl; burst = refl; given = refl; stands = refl }
+follows_at (request.Wr x w) c zero q codes command within = record { blank = blank_at (request.Wr x w) c.cells q; left = drop 0 (wire (request.Wr x w) (blank_at (request.Wr x w) c.cells q)); front = refl; host = refl; controller = refl; cells = refl; burst = refl; given = refl; stands = refl }
+follows_at (request.Wr x w) c (suc zero) q codes command within = record { blank = blank_at (request.Wr x w) c.cells q; left = drop 1 (wire (request.Wr x w) (blank_at (request.Wr x w) c.cells q)); front = refl; host = refl; controller = refl; cells = refl; burst = refl; given = refl; stands = refl }
+follows_at (request.Wr x w) c (suc (suc zero)) q codes command within = record { blank = blank_at (request.Wr x w) c.cells q; left = drop 2 (wire (request.Wr x w) (blank_at (request.Wr x w) c.cells q)); front = refl; host = refl; controller = refl; cells = refl; burst = refl; given = refl; stands = refl }
+follows_at (request.Wr x w) c (suc (suc (suc zero))) q codes command within = record { blank = blank_at (request.Wr x w) c.cells q; left = drop 3 (wire (request.Wr x w) (blank_at (request.Wr x w) c.cells q)); front = refl; host = refl; controller = refl; cells = refl; burst = refl; given = refl; stands = refl }
+follows_at (request.Wr x w) c (suc (suc (suc (suc zero)))) q codes command within = record { blank = blank_at (request.Wr x w) c.cells q; left = drop 4 (wire (request.Wr x w) (blank_at (request.Wr x w) c.cells q)); front = refl; host = refl; controller = refl; cells = refl; burst = refl; given = refl; stands = refl }
+follows_at (request.Wr x w) c (suc (suc (suc (suc (suc zero))))) q codes command within = record { blank = blank_at (request.Wr x w) c.cells q; left = drop 5 (wire (request.Wr x w) (blank_at (request.Wr x w) c.cells q)); front = refl; host = refl; controller = refl; cells = refl; burst = refl; given = refl; stands = refl }
+follows_at (request.Wr x w) c (suc (suc (suc (suc (suc (suc zero)))))) q codes command within = record { blank = blank_at (request.Wr x w) c.cells q; left = drop 6 (wire (request.Wr x w) (blank_at (request.Wr x w) c.cells q)); front = refl; host = refl; controller = refl; cells = refl; burst = refl; given = refl; stands = refl }
 follows_at (request.Wr x w) c (suc (suc (suc (suc (suc (suc (suc n))))))) q codes command within = absurd (omega arith)
-follows_at request.Be c zero q codes command within = record { blank = blank_at request.Be c.cells q; left = drop 0 (wire request.Be (blank_at request.Be c.cells q)); front = refl; cells = refl; burst = refl; given = refl; stands = refl }
-follows_at request.Be c (suc zero) q codes command within = record { blank = blank_at request.Be c.cells q; left = drop 1 (wire request.Be (blank_at request.Be c.cells q)); front = refl; cells = refl; burst = refl; given = refl; stands = refl }
-follows_at request.Be c (suc (suc zero)) q codes command within = record { blank = blank_at request.Be c.cells q; left = drop 2 (wire request.Be (blank_at request.Be c.cells q)); front = refl; cells = refl; burst = refl; given = refl; stands = refl }
-follows_at request.Be c (suc (suc (suc zero))) q codes command within = record { blank = blank_at request.Be c.cells q; left = drop 3 (wire request.Be (blank_at request.Be c.cells q)); front = refl; cells = refl; burst = refl; given = refl; stands = refl }
+follows_at request.Be c zero q codes command within = record { blank = blank_at request.Be c.cells q; left = drop 0 (wire request.Be (blank_at request.Be c.cells q)); front = refl; host = refl; controller = refl; cells = refl; burst = refl; given = refl; stands = refl }
+follows_at request.Be c (suc zero) q codes command within = record { blank = blank_at request.Be c.cells q; left = drop 1 (wire request.Be (blank_at request.Be c.cells q)); front = refl; host = refl; controller = refl; cells = refl; burst = refl; given = refl; stands = refl }
+follows_at request.Be c (suc (suc zero)) q codes command within = record { blank = blank_at request.Be c.cells q; left = drop 2 (wire request.Be (blank_at request.Be c.cells q)); front = refl; host = refl; controller = refl; cells = refl; burst = refl; given = refl; stands = refl }
+follows_at request.Be c (suc (suc (suc zero))) q codes command within = record { blank = blank_at request.Be c.cells q; left = drop 3 (wire request.Be (blank_at request.Be c.cells q)); front = refl; host = refl; controller = refl; cells = refl; burst = refl; given = refl; stands = refl }
 follows_at request.Be c (suc (suc (suc (suc n)))) q codes command within = absurd (omega arith)
-follows_at request.Bd c zero q codes command within = record { blank = blank_at request.Bd c.cells q; left = drop 0 (wire request.Bd (blank_at request.Bd c.cells q)); front = refl; cells = refl; burst = refl; given = refl; stands = refl }
-follows_at request.Bd c (suc zero) q codes command within = record { blank = blank_at request.Bd c.cells q; left = drop 1 (wire request.Bd (blank_at request.Bd c.cells q)); front = refl; cells = refl; burst = refl; given = refl; stands = refl }
-follows_at request.Bd c (suc (suc zero)) q codes command within = record { blank = blank_at request.Bd c.cells q; left = drop 2 (wire request.Bd (blank_at request.Bd c.cells q)); front = refl; cells = refl; burst = refl; given = refl; stands = refl }
+follows_at request.Bd c zero q codes command within = record { blank = blank_at request.Bd c.cells q; left = drop 0 (wire request.Bd (blank_at request.Bd c.cells q)); front = refl; host = refl; controller = refl; cells = refl; burst = refl; given = refl; stands = refl }
+follows_at request.Bd c (suc zero) q codes command within = record { blank = blank_at request.Bd c.cells q; left = drop 1 (wire request.Bd (blank_at request.Bd c.cells q)); front = refl; host = refl; controller = refl; cells = refl; burst = refl; given = refl; stands = refl }
+follows_at request.Bd c (suc (suc zero)) q codes command within = record { blank = blank_at request.Bd c.cells q; left = drop 2 (wire request.Bd (blank_at request.Bd c.cells q)); front = refl; host = refl; controller = refl; cells = refl; burst = refl; given = refl; stands = refl }
 follows_at request.Bd c (suc (suc (suc n))) q codes command within = absurd (omega arith)
-follows_at request.Qr c zero q codes command within = record { blank = blank_at request.Qr c.cells q; left = drop 0 (wire request.Qr (blank_at request.Qr c.cells q)); front = refl; cells = refl; burst = refl; given = refl; stands = refl }
-follows_at request.Qr c (suc zero) q codes command within = record { blank = blank_at request.Qr c.cells q; left = drop 1 (wire request.Qr (blank_at request.Qr c.cells q)); front = refl; cells = refl; burst = refl; given = refl; stands = refl }
-follows_at request.Qr c (suc (suc zero)) q codes command within = record { blank = blank_at request.Qr c.cells q; left = drop 2 (wire request.Qr (blank_at request.Qr c.cells q)); front = refl; cells = refl; burst = refl; given = refl; stands = refl }
-follows_at request.Qr c (suc (suc (suc zero))) q codes command within = record { blank = blank_at request.Qr c.cells q; left = drop 3 (wire request.Qr (blank_at request.Qr c.cells q)); front = refl; cells = refl; burst = refl; given = refl; stands = refl }
+follows_at request.Qr c zero q codes command within = record { blank = first_code codes; left = drop 0 (wire request.Qr (first_code codes)); front = refl; host = refl; controller = refl; cells = refl; burst = refl; given = refl; stands = refl }
+follows_at request.Qr c (suc zero) q codes command within = record { blank = first_code codes; left = drop 1 (wire request.Qr (first_code codes)); front = refl; host = refl; controller = refl; cells = refl; burst = refl; given = refl; stands = refl }
+follows_at request.Qr c (suc (suc zero)) q codes command within = record { blank = blank_at request.Qr c.cells q; left = drop 2 (wire request.Qr (blank_at request.Qr c.cells q)); front = refl; host = refl; controller = refl; cells = refl; burst = refl; given = refl; stands = refl }
+follows_at request.Qr c (suc (suc (suc zero))) q codes command within = record { blank = blank_at request.Qr c.cells q; left = drop 3 (wire request.Qr (blank_at request.Qr c.cells q)); front = refl; host = refl; controller = refl; cells = refl; burst = refl; given = refl; stands = refl }
 follows_at request.Qr c (suc (suc (suc (suc n)))) q codes command within = absurd (omega arith)
 
 pub follows : (r : Request) (c : ChipData) (turns : List Turn) → AlwaysFollows r c turns

@@ -56,6 +56,11 @@ abbrev pub host_of : Option Move → Option HostMove
 host_of (Some (move.Host m)) = Some m
 host_of _ = None
 
+-- the effect of a move of the controller's
+abbrev pub effect_in : Option Move → Option Effect
+effect_in (Some (move.Ctl e)) = Some e
+effect_in _ = None
+
 -- the move that the host makes next, where it is its turn
 abbrev pub next_host : TransactionData → ChipData → Option HostMove
 next_host t c = host_of (next_move t c)

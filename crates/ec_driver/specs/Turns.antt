@@ -1,6 +1,6 @@
 -- A driver and a controller that take turns, while the firmware adds query codes: in any order, each waits where it
 -- must.
-use Rattle.std.specs.Prelude.{ℕ, ◌≡◌, ◌<◌, Bool, true, false, List, [], ◌∷◌, ◌++◌, drop, slice_index, slice_set, Option, Some, None, if◌then◌else◌}
+use Rattle.std.specs.Prelude.{ℕ, ◌≡◌, ◌<◌, Bool, true, false, List, [], ◌∷◌, ◌++◌, drop, slice_get, slice_index, slice_set, Option, Some, None, if◌then◌else◌}
 use Rattle.acpi_regs.specs.declared.entry.Effect.{Effect}
 use Rattle.acpi_regs.specs.declared.entry.HostMove.{HostMove}
 use Rattle.acpi_regs.specs.declared.entry.Request.{Request}
@@ -9,7 +9,7 @@ use Rattle.ec_chip.specs.Chip.{ChipData, quiet, after_push, after_step, next_eff
 use Rattle.ec_chip.specs.Parts.{first_code}
 use Rattle.ec_driver.specs.declared.wire.Move.{Move}
 use Rattle.ec_driver.specs.declared.wire.Move.TheVariants as move
-use Rattle.ec_driver.specs.Driver.{TransactionData, Stands, after_advance, chip_after_advance, finished, next_host, opened}
+use Rattle.ec_driver.specs.Driver.{TransactionData, Stands, after_advance, chip_after_advance, effect_in, finished, host_of, next_host, opened}
 use Rattle.ec_driver.specs.Wire.{burst_from, carried, cells_from, wire}
 
 -- the transaction, the controller, and the moves that were made, the oldest first
@@ -57,13 +57,16 @@ abbrev pub is_empty : List Move → Bool
 is_empty [] = true
 is_empty (m ∷ later) = false
 
--- The moves that were made are a front of the moves of the request, with its blank filled. At every moment they tell
--- the cells and burst mode. The requester is given what the request carries exactly where they are all made. The
--- condition of the driver's calls holds.
+-- The moves that were made are a front of the moves of the request, with its blank filled. The first that is left is
+-- foretold by the one whose move it is, and the other waits. At every moment the moves tell the cells and burst mode.
+-- The requester is given what the request carries exactly where they are all made. The condition of the driver's
+-- calls holds.
 pub record FollowsWire (r : Request) (old : ChipData) (w : World) : Type 0 where
   pub blank : ℕ
   pub left : List Move
   pub front : w.moves ++ left ≡ wire r blank
+  pub host : next_host w.driver w.chip ≡ host_of (slice_get left 0)
+  pub controller : next_effect w.chip ≡ effect_in (slice_get left 0)
   pub cells : w.chip.cells ≡ cells_from r w.moves old.cells
   pub burst : w.chip.burst ≡ burst_from r w.moves old.burst
   pub given : finished w.driver w.chip ≡ (if is_empty left then Some (carried r blank) else None)

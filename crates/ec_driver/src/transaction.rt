@@ -26,7 +26,7 @@ pub enum AdvanceOutcome {
 /// the condition that IBF, OBF, the output and the command that is half given are as this transaction's moves, the
 /// controller's among them, left them. Query codes may have been pushed since. A new transaction stands where
 /// nothing is on its way.
-#[derive(Clone, Copy, Debug)]
+#[derive(Debug, Drop)]
 pub struct Transaction {
     request: Request,
     /// How many moves were made when the host had made its last.
@@ -41,8 +41,6 @@ impl Model for Transaction {
     ghost Value = { TransactionData };
 
     ghost view = { λ t. record { asks = t.request; made = t.made; got = t.got } };
-
-    ghost inverse = { λ d. record { request = d.asks; made = d.made; got = d.got } };
 }
 
 impl Transaction {
