@@ -1,6 +1,5 @@
 -- The host's moves keep the transaction and the controller in step.
-use Rattle.std.proofs.Common.{ℕ, zero, suc, ◌+◌, ◌≡◌, Bool, true, false, ◌&&◌, cond, List, [], ◌∷◌, take, slice_get, Option, Some, None, unwrap_or, is_none, refl, sym, ◌∙◌, ap, subst, add-one}
-use Rattle.std.proofs.lemmas.Bool.{and_right}
+use Rattle.std.proofs.Common.{ℕ, zero, suc, ◌+◌, ◌≡◌, Bool, true, false, ◌&&◌, cond, List, [], ◌∷◌, take, slice_get, Some, unwrap_or, is_none, refl, sym, ◌∙◌, ap, add-one}
 use Rattle.acpi_regs.specs.declared.entry.HostMove.{HostMove}
 use Rattle.acpi_regs.specs.declared.entry.HostMove.TheVariants as host
 use Rattle.acpi_regs.specs.declared.entry.Request.{Request}

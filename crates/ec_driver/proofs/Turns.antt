@@ -1,12 +1,12 @@
 -- Each place in a request, and what a turn makes of it. At a place the first n moves are made.
-use Rattle.std.proofs.Common.{ℕ, zero, suc, ◌+◌, ◌≤◌, ◌≡◌, Bool, true, false, List, [], ◌∷◌, ◌++◌, length, take, drop, slice_index, slice_set, Option, Some, None, refl, sym, ◌∙◌, ap, subst, append_assoc, arith}
+use Rattle.std.proofs.Common.{ℕ, zero, suc, ◌≤◌, ◌≡◌, Bool, true, false, List, [], ◌∷◌, ◌++◌, length, take, drop, slice_index, slice_set, Option, Some, refl, sym, ◌∙◌, ap, subst, append_assoc, arith}
 use Rattle.std.proofs.lemmas.List.{append-nil}
 use Rattle.acpi_regs.specs.declared.entry.Request.{Request}
 use Rattle.acpi_regs.specs.declared.entry.Request.TheVariants as request
-use Rattle.ec_chip.specs.Chip.{ChipData, quiet, after_push, after_step}
+use Rattle.ec_chip.specs.Chip.{ChipData, quiet}
 use Rattle.ec_chip.specs.Parts.{first_code}
-use Rattle.ec_driver.specs.Driver.{Stands, finished, opened}
-use Rattle.ec_driver.specs.Turns.{AlwaysDoes, AlwaysFollows, Does, FollowsWire, GivesFirst, Has, Turn, World, Driver, Controller, Push, after_turn, after_turns, begun, pushed}
+use Rattle.ec_driver.specs.Driver.{finished}
+use Rattle.ec_driver.specs.Turns.{AlwaysDoes, AlwaysFollows, Does, FollowsWire, GivesFirst, Turn, World, Driver, Controller, Push, after_turn, after_turns, begun, pushed}
 use Rattle.ec_driver.specs.Wire.{exchange_from, wire}
 
 -- the byte that fills the blank; for a query it is q

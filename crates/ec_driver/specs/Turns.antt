@@ -1,6 +1,6 @@
 -- A driver and a controller that take turns, while the firmware adds query codes: in any order, each waits where it
 -- must.
-use Rattle.std.specs.Prelude.{ℕ, ◌≡◌, ◌<◌, Bool, true, false, List, [], ◌∷◌, ◌++◌, drop, slice_get, slice_index, slice_set, Option, Some, None, if◌then◌else◌}
+use Rattle.std.specs.Prelude.{ℕ, ◌≡◌, Bool, true, false, List, [], ◌∷◌, ◌++◌, drop, slice_get, slice_index, slice_set, Option, Some, None, if◌then◌else◌}
 use Rattle.acpi_regs.specs.declared.entry.Effect.{Effect}
 use Rattle.acpi_regs.specs.declared.entry.HostMove.{HostMove}
 use Rattle.acpi_regs.specs.declared.entry.Request.{Request}

@@ -1,4 +1,4 @@
-use Rattle.std.proofs.Common.{◌≡◌, Some, sym, ap, ◌∙◌}
+use Rattle.std.proofs.Common.{Some, sym, ap, ◌∙◌}
 use Rattle.ec_driver.proofs.Places.{host_stands}
 use Rattle.ec_driver.proofs.transaction.Transaction.advance.Goals as goal
 
