@@ -9,8 +9,8 @@ use Rattle.ec_chip.specs.Chip.{ChipData, quiet, after_push, after_step, next_eff
 use Rattle.ec_chip.specs.Parts.{first_code}
 use Rattle.ec_driver.specs.declared.wire.Move.{Move}
 use Rattle.ec_driver.specs.declared.wire.Move.TheVariants as move
-use Rattle.ec_driver.specs.Driver.{TransactionData, Stands, after_advance, chip_after_advance, effect_in, finished, host_of, next_host, opened}
-use Rattle.ec_driver.specs.Wire.{burst_from, carried, cells_from, wire}
+use Rattle.ec_driver.specs.Driver.{TransactionData, Stands, after_advance, chip_after_advance, effect_in, finished, host_of, moves_made, next_host, opened}
+use Rattle.ec_driver.specs.Wire.{burst_by, burst_from, carried, cells_by, cells_from, codes_by, fill, wire}
 
 -- the transaction, the controller, and the moves that were made, the oldest first
 pub record World : Type 0 where
@@ -120,3 +120,11 @@ pub record StandsOn (t : TransactionData) (c : ChipData) : Type 0 where
   pub step : Stands t c → Stands t (after_step c)
   pub push : (q : ℕ) → Stands t c → Stands t (after_push q c)
   pub start : (r : Request) → c.exchange ≡ quiet → Stands (opened r) c
+
+-- Where the condition holds, what the controller does next is its move of the request, with the blank filled by the
+-- byte of the cell or by the first code, and its turn does to cells, codes and burst mode what that move says.
+pub record MovesAsAsked (t : TransactionData) (c : ChipData) : Type 0 where
+  pub effect : Stands t c → next_effect c ≡ effect_in (slice_get (wire t.asks (fill t.asks c.cells c.codes)) (moves_made t c))
+  pub cells : (e : Effect) → Stands t c → next_effect c ≡ Some e → (after_step c).cells ≡ cells_by t.asks (move.Ctl e) c.cells
+  pub codes : (e : Effect) → Stands t c → next_effect c ≡ Some e → (after_step c).codes ≡ codes_by t.asks (move.Ctl e) c.codes
+  pub burst : (e : Effect) → Stands t c → next_effect c ≡ Some e → (after_step c).burst ≡ burst_by t.asks (move.Ctl e) c.burst

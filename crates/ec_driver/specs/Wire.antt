@@ -1,11 +1,11 @@
 -- The moves of a transaction with the controller, and what each does to what is on its way (ACPI 6.5, section 12.3).
-use Rattle.std.specs.Prelude.{ℕ, Bool, true, false, slice_set, List, [], ◌∷◌, Option, Some, None, unwrap_or}
+use Rattle.std.specs.Prelude.{ℕ, Bool, true, false, drop, slice_index, slice_set, List, [], ◌∷◌, Option, Some, None, unwrap_or}
 use Rattle.acpi_regs.specs.declared.entry.Effect.TheVariants as effect
 use Rattle.acpi_regs.specs.declared.entry.HostMove.TheVariants as host
 use Rattle.acpi_regs.specs.declared.entry.Request.{Request}
 use Rattle.acpi_regs.specs.declared.entry.Request.TheVariants as request
 use Rattle.ec_chip.specs.Chip.{Exchange}
-use Rattle.ec_chip.specs.Parts.{half_after, output_after}
+use Rattle.ec_chip.specs.Parts.{first_code, half_after, output_after}
 use Rattle.ec_driver.specs.declared.wire.Move.{Move}
 use Rattle.ec_driver.specs.declared.wire.Move.TheVariants as move
 
@@ -62,3 +62,14 @@ burst_by r m old = old
 abbrev pub burst_from : Request → List Move → Bool → Bool
 burst_from r [] old = old
 burst_from r (m ∷ later) old = burst_from r later (burst_by r m old)
+
+-- a query's output is the first code, which leaves the list
+abbrev pub codes_by : Request → Move → List ℕ → List ℕ
+codes_by request.Qr (move.Ctl (effect.Out v)) codes = drop 1 codes
+codes_by r m codes = codes
+
+-- the byte that fills the blank at the controller's move
+abbrev pub fill : Request → List ℕ → List ℕ → ℕ
+fill (request.Rd x) cells codes = slice_index cells x
+fill request.Qr cells codes = first_code codes
+fill r cells codes = 0

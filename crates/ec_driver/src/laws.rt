@@ -4,7 +4,7 @@ ghost use Rattle.std.specs.Prelude.{◌≡◌, ◌↔◌, List, IsTrue};
 ghost use Rattle.acpi_regs.specs.declared.entry.Request.{Request};
 ghost use Rattle.ec_chip.specs.Chip.{ChipData};
 ghost use Rattle.ec_driver.specs.Driver.{TransactionData};
-ghost use Rattle.ec_driver.specs.Turns.{AlwaysDoes, AlwaysFollows, StandsOn, Turn};
+ghost use Rattle.ec_driver.specs.Turns.{AlwaysDoes, AlwaysFollows, MovesAsAsked, StandsOn, Turn};
 
 use crate::AdvanceOutcome;
 
@@ -24,6 +24,11 @@ pub fn law_does_what_is_asked()
 /// turns and pushed codes keep it.
 pub fn law_stands()
     ensures { (t : TransactionData) (c : ChipData) → StandsOn t c }
+{}
+
+/// Where the condition of the driver's calls holds, the controller makes its move of the request and no other.
+pub fn law_controller_moves()
+    ensures { (t : TransactionData) (c : ChipData) → MovesAsAsked t c }
 {}
 
 /// Two outcomes are equal exactly where they are the same.
