@@ -1,2 +1,3 @@
+pub mod BurstMode
 pub mod CodesInOrder
 pub mod Status

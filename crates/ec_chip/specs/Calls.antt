@@ -1,5 +1,5 @@
 -- Lists of calls: the query codes over all of them, and what the status register tells.
-use Rattle.std.specs.Prelude.{ℕ, ◌<◌, ◌≡◌, ◌==◌, Bool, not, List, [], ◌∷◌, ◌++◌, length, All, bit_and, Option, Some, is_some, if◌then◌else◌}
+use Rattle.std.specs.Prelude.{ℕ, ◌<◌, ◌≡◌, ◌==◌, Bool, not, List, [], ◌∷◌, ◌++◌, length, All, bit_and, Option, Some, is_some, if◌then◌else◌, true, false, take, slice_get, None}
 use Rattle.ec_chip.specs.declared.parts.Half.{Half}
 use Rattle.ec_chip.specs.declared.parts.Half.TheVariants as half
 use Rattle.ec_chip.specs.declared.parts.Port.{Port}
@@ -56,6 +56,28 @@ AreCodes codes = All (λ q. 0 < q) codes
 abbrev pub GivesInOrder : List Call → ChipData → Type 0
 GivesInOrder calls c =
     AreCodes c.codes → AreCodes (pushed calls) → given calls c ++ (after_calls calls c).codes ≡ c.codes ++ pushed calls
+
+-- ---- burst mode
+
+-- the controller's taking of burst enable turns it on, that of burst disable and its own leave turn it off
+abbrev pub turns_on : Half → Option ℕ → Option Bool
+turns_on half.Nothing (Some byte) =
+    if byte == 130 then Some true else (if byte == 131 then Some false else None)
+turns_on _ _ = None
+
+abbrev pub turns_by : Call → ChipData → Option Bool
+turns_by Step c = turns_on c.exchange.half c.exchange.input
+turns_by Calm c = Some false
+turns_by _ c = None
+
+-- the call at place i turns burst mode on or off
+abbrev pub TurnsAt : List Call → ChipData → ℕ → Bool → Type 0
+TurnsAt calls c i on = (call : Call) × (slice_get calls i ≡ Some call) × (turns_by call (after_calls (take i calls) c) ≡ Some on)
+
+-- burst mode is what the last call that turns it on or off made it, else what it was
+pub record LastTurns (calls : List Call) (c : ChipData) : Type 0 where
+  pub turned : (i : ℕ) (on : Bool) → TurnsAt calls c i on → ((j : ℕ) (other : Bool) → i < j → TurnsAt calls c j other → ⊥) → (after_calls calls c).burst ≡ on
+  pub never : ((i : ℕ) (on : Bool) → TurnsAt calls c i on → ⊥) → (after_calls calls c).burst ≡ c.burst
 
 -- ---- the status register (ACPI 6.5, section 12.2.1)
 
