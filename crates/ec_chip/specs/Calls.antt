@@ -1,4 +1,4 @@
--- Lists of calls: the query codes over all of them, and what the status register tells.
+-- Lists of calls: query codes and burst mode over all of them, and what the status register tells.
 use Rattle.std.specs.Prelude.{ℕ, ◌<◌, ◌≡◌, ◌==◌, Bool, not, List, [], ◌∷◌, ◌++◌, length, All, bit_and, Option, Some, is_some, if◌then◌else◌, true, false, take, slice_get, None}
 use Rattle.ec_chip.specs.declared.parts.Half.{Half}
 use Rattle.ec_chip.specs.declared.parts.Half.TheVariants as half
