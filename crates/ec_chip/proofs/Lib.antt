@@ -1,0 +1,3 @@
+pub mod BurstMode
+pub mod CodesInOrder
+pub mod Status

@@ -1,0 +1,93 @@
+-- Lists of calls: query codes and burst mode over all of them, and what the status register tells.
+use Rattle.std.specs.Prelude.{ℕ, ◌<◌, ◌≡◌, ◌==◌, Bool, not, List, [], ◌∷◌, ◌++◌, length, All, bit_and, Option, Some, is_some, if◌then◌else◌, true, false, take, slice_get, None}
+use Rattle.ec_chip.specs.declared.parts.Half.{Half}
+use Rattle.ec_chip.specs.declared.parts.Half.TheVariants as half
+use Rattle.ec_chip.specs.declared.parts.Port.{Port}
+use Rattle.ec_chip.specs.Chip.{ChipData, status_bits, after_write, after_read, after_step, after_push, after_calm}
+use Rattle.ec_chip.specs.Parts.{first_code}
+
+pub data Call : Type 0 where
+  Write : Port → ℕ → Call
+  Read : Call
+  Step : Call
+  Push : ℕ → Call
+  Calm : Call
+
+abbrev pub after_call : Call → ChipData → ChipData
+after_call (Write p byte) c = after_write p byte c
+after_call Read c = after_read c
+after_call Step c = after_step c
+after_call (Push q) c = after_push q c
+after_call Calm c = after_calm c
+
+abbrev pub after_calls : List Call → ChipData → ChipData
+after_calls [] c = c
+after_calls (call ∷ later) c = after_calls later (after_call call c)
+
+-- ---- query codes
+
+-- 00 is no code
+abbrev pub code : ℕ → List ℕ
+code q = if q == 0 then [] else q ∷ []
+
+-- a query is given the first code
+abbrev pub given_on : Half → Option ℕ → List ℕ → List ℕ
+given_on half.Nothing (Some byte) codes = if byte == 132 then code (first_code codes) else []
+given_on _ _ codes = []
+
+abbrev pub given_by : Call → ChipData → List ℕ
+given_by Step c = given_on c.exchange.half c.exchange.input c.codes
+given_by _ c = []
+
+abbrev pub given : List Call → ChipData → List ℕ
+given [] c = []
+given (call ∷ later) c = given_by call c ++ given later (after_call call c)
+
+abbrev pub pushed : List Call → List ℕ
+pushed [] = []
+pushed (Push q ∷ later) = q ∷ pushed later
+pushed (_ ∷ later) = pushed later
+
+abbrev pub AreCodes : List ℕ → Type 0
+AreCodes codes = All (λ q. 0 < q) codes
+
+-- each code is given once and in its order: the codes that were given, and those that wait, are those that waited
+-- at first, and those that were pushed
+abbrev pub GivesInOrder : List Call → ChipData → Type 0
+GivesInOrder calls c =
+    AreCodes c.codes → AreCodes (pushed calls) → given calls c ++ (after_calls calls c).codes ≡ c.codes ++ pushed calls
+
+-- ---- burst mode
+
+-- the controller's taking of burst enable turns it on, that of burst disable and its own leave turn it off
+abbrev pub turns_on : Half → Option ℕ → Option Bool
+turns_on half.Nothing (Some byte) =
+    if byte == 130 then Some true else (if byte == 131 then Some false else None)
+turns_on _ _ = None
+
+abbrev pub turns_by : Call → ChipData → Option Bool
+turns_by Step c = turns_on c.exchange.half c.exchange.input
+turns_by Calm c = Some false
+turns_by _ c = None
+
+-- the call at place i turns burst mode on or off
+abbrev pub TurnsAt : List Call → ChipData → ℕ → Bool → Type 0
+TurnsAt calls c i on = (call : Call) × (slice_get calls i ≡ Some call) × (turns_by call (after_calls (take i calls) c) ≡ Some on)
+
+-- burst mode is what the last call that turns it on or off made it, else what it was
+pub record LastTurns (calls : List Call) (c : ChipData) : Type 0 where
+  pub turned : (i : ℕ) (on : Bool) → TurnsAt calls c i on → ((j : ℕ) (other : Bool) → i < j → TurnsAt calls c j other → ⊥) → (after_calls calls c).burst ≡ on
+  pub never : ((i : ℕ) (on : Bool) → TurnsAt calls c i on → ⊥) → (after_calls calls c).burst ≡ c.burst
+
+-- ---- the status register (ACPI 6.5, section 12.2.1)
+
+abbrev pub has_flag : ChipData → ℕ → Bool
+has_flag c flag = bit_and (status_bits c) flag == flag
+
+-- each flag is set exactly where its sentence holds
+pub record TellsStatus (c : ChipData) : Type 0 where
+  pub obf : has_flag c 1 ≡ is_some c.exchange.output
+  pub ibf : has_flag c 2 ≡ is_some c.exchange.input
+  pub cmd : has_flag c 8 ≡ c.command
+  pub burst : has_flag c 16 ≡ c.burst
+  pub sci_evt : has_flag c 32 ≡ not (length c.codes == 0)
