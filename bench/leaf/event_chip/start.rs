@@ -12,5 +12,5 @@ pub fn chip(_: Global) -> Option<EventChip> {
 }
 
 pub fn event(number: u64) -> Event {
-    Event::Gpe(number as u8)
+    Event::Gpe((number % 256) as u8)
 }

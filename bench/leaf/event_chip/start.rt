@@ -11,5 +11,5 @@ pub fn chip(alloc: Global) -> Option<EventChip> {
 }
 
 pub fn event(number: u64) -> Event {
-    Event::Gpe(number as u8)
+    Event::Gpe((number % 256) as u8)
 }

@@ -1,4 +1,4 @@
--- Names of the methods that handle events (ACPI 6.5, sections 5.6.4.1 and 5.6.4.1.2): `_Lxx` and `_Exx` for GPE xx,
+-- Names of the methods that handle events (ACPI 6.5, section 5.6.4.1): `_Lxx` and `_Exx` for GPE xx,
 -- `_Qxx` for query code xx of the embedded controller, xx two upper-case hexadecimal digits.
 use Rattle.std.specs.Prelude.{◌≡◌, ◌↔◌, ℕ, ◌+◌, ◌-◌, ◌*◌, ◌/◌, ◌%◌, ◌<◌, ◌==◌, ◌&&◌, nat_lt, nat_le, List, [], ◌∷◌, Option, Some, None, option_map, option_and_then, if◌then◌else◌}
 use Rattle.acpi_regs.specs.declared.name.MethodName.{MethodName}

@@ -1,4 +1,4 @@
--- The registers of one event, and what each touch does to them (ACPI 6.5, sections 4.8.1, 5.6.4 and 5.6.4.1).
+-- The registers of one event, and what each touch does to them (ACPI 6.5, sections 4.8.3.1, 4.8.4.1, 5.6.4 and 5.6.4.1).
 --
 -- A status bit says that the event happened. A level event has a line besides: while it is asserted the event is not
 -- over. An event is held from its claim to the end of its handler, which is where an OS masks its source. Sixteen runs
