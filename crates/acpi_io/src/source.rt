@@ -74,7 +74,7 @@ impl From<AllocError> for ReadAllFault {
     }
 }
 
-/// Reads a source to its end and gives all its bytes, which may be up to `limit`.
+/// Reads a source to its end and gives all its bytes, which may be up to `limit`. `limit` is at most 67,108,864.
 ///
 /// It answers `ReadFault` where a read failed, `TooLarge` where there are more bytes than `limit`, and `Memory`
 /// where memory ran out, which is told of no read that failed and of no bytes past the limit. After any of them the

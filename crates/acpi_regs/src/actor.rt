@@ -4,7 +4,9 @@ ghost use Rattle.acpi_regs.specs.Actor.{side_of};
 /// One of the two parties that share the Global Lock (ACPI 6.5, section 5.2.10.1).
 #[derive(Clone, Copy, Debug, PartialEq, Eq)]
 pub enum Side {
+    /// The operating system.
     Os,
+    /// The firmware.
     Firmware,
 }
 

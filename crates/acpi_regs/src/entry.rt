@@ -1,9 +1,11 @@
 use crate::{Actor, Event};
 
-/// A byte of a region, by the region's place in the description and the offset from its start.
+/// A byte of a region.
 #[derive(Clone, Copy, Debug, PartialEq, Eq)]
 pub struct Cell {
+    /// The index of the region in the description.
     pub region: u8,
+    /// Counted from the region's start.
     pub offset: u16,
 }
 
@@ -100,6 +102,8 @@ pub enum Deed {
 /// One entry of the journal.
 #[derive(Clone, Copy, Debug, PartialEq, Eq)]
 pub struct Entry {
+    /// Who did it.
     pub actor: Actor,
+    /// What it did.
     pub deed: Deed,
 }

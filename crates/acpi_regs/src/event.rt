@@ -51,13 +51,16 @@ impl Fixed {
 /// (ACPI 6.5, section 5.6.4). Fixed events come first, then GPEs by number.
 #[derive(Clone, Copy, Debug, PartialEq, Eq, PartialOrd, Ord)]
 pub enum Event {
+    /// A fixed event.
     Fixed(Fixed),
+    /// A general-purpose event, by its number.
     Gpe(u8),
 }
 
 /// An event that a description lists: with its handler's kind and how many references hold it enabled at first.
 #[derive(Clone, Copy, Debug, PartialEq, Eq)]
 pub struct Listed {
+    /// The event.
     pub event: Event,
     /// Whether the event is level-triggered, which only a GPE may be (ACPI 6.5, section 5.6.4.1).
     pub level: bool,

@@ -1,10 +1,10 @@
-ghost use Rattle.std.specs.Prelude.{⊤, [], ◌∷◌, codes};
-ghost use Rattle.acpi_regs.specs.Flags.{ec_bits, pm1_bits};
+ghost use Rattle.std.specs.Prelude.{⊤};
+ghost use Rattle.acpi_regs.specs.Flags.{ec_bits, ec_flags, pm1_bits, pm1_flags};
 
 use bitflags::{Flag, Flags, bitflag_items};
 
 /// Bits of the PM1 status and enable registers (ACPI 6.5, sections 4.8.3.1.1 and 4.8.3.1.2). In the status register
-/// a set bit says that the event happened, and writing a one clears it.
+/// a set bit says that the event happened, and writing a one clears it. `WAK` is a bit of the status register alone.
 #[derive(Clone, Copy, Debug, PartialEq, Eq)]
 pub struct Pm1Bits(u16);
 
@@ -24,8 +24,7 @@ impl Flags for Pm1Bits {
 
     ghost exact = { ⊤ };
 
-    ghost table = { (codes "TMR", 1) ∷ (codes "GBL", 32) ∷ (codes "PWRBTN", 256) ∷ (codes "SLPBTN", 512)
-        ∷ (codes "RTC", 1024) ∷ (codes "WAK", 32768) ∷ [] };
+    ghost table = { pm1_flags };
 
     ghost set_of = { pm1_bits };
 
@@ -65,8 +64,7 @@ impl Flags for EcStatus {
 
     ghost exact = { ⊤ };
 
-    ghost table = { (codes "OBF", 1) ∷ (codes "IBF", 2) ∷ (codes "CMD", 8) ∷ (codes "BURST", 16)
-        ∷ (codes "SCI_EVT", 32) ∷ [] };
+    ghost table = { ec_flags };
 
     ghost set_of = { ec_bits };
 

@@ -1,7 +1,7 @@
 ghost use Rattle.std.specs.Prelude.{◌≡◌, None};
 ghost use Rattle.acpi_regs.specs.Geometry.{Blocks, bad_field, is_bad_length};
 
-/// The number of a description of GPE blocks that is wrong.
+/// Which of the three numbers of two GPE blocks is wrong.
 #[derive(Clone, Copy, Debug, PartialEq, Eq)]
 pub enum GeometryField {
     /// The length of the first block.

@@ -4,7 +4,7 @@ ghost use Rattle.acpi_regs.specs.Actor.{OrdersByKind, same_actor};
 ghost use Rattle.acpi_regs.specs.Comparisons.{IsExact, OrdersBy};
 ghost use Rattle.acpi_regs.specs.Event.{event_rank, fixed_rank, same_event};
 ghost use Rattle.acpi_regs.specs.Names.{SpellsNames};
-ghost use Rattle.acpi_regs.specs.Places.{PlacesEvents};
+ghost use Rattle.acpi_regs.specs.Places.{EndsBlocks, EndsTight, FillsPlaces, PlacesEvents};
 ghost use Rattle.acpi_regs.specs.contracts.actor.SidePartialEq.TheImpl as side_eq;
 ghost use Rattle.acpi_regs.specs.contracts.actor.ActorPartialEq.TheImpl as actor_eq;
 ghost use Rattle.acpi_regs.specs.contracts.event.FixedPartialEq.TheImpl as fixed_eq;
@@ -56,13 +56,13 @@ pub fn law_equality()
     ensures ec_status { IsExact EcStatus (ec_status_eq.ghosts).eq }
 {}
 
-/// The words in which definitions compare two events or two actors are exact too.
+/// `same_event` and `same_actor`, by which definitions compare, hold exactly where both values are the same.
 pub fn law_same()
     ensures event { IsExact Event same_event }
     ensures actor { IsExact Actor same_actor }
 {}
 
-/// Fixed events come first, in the order of the PM1 bits that are listed with them, then GPEs by number. Actors come by
+/// Fixed events come first, in ascending order of their PM1 bits, then GPEs by number. Actors come by
 /// kind, in the order in which [`Actor`] lists them, then by number.
 pub fn law_order()
     ensures fixed { OrdersBy Fixed fixed_rank (fixed_ord.ghosts).cmp }
@@ -76,7 +76,11 @@ pub fn law_names()
     ensures { SpellsNames }
 {}
 
-/// The place of a GPE is a bit of its block's status register, and the event that stands there is that GPE.
+/// The place of a GPE is a bit of its block's status register, the event that stands there is that GPE, and each such bit
+/// has its GPE. No GPE from the end of the blocks on has a place, and the one before it has one.
 pub fn law_places()
-    ensures { PlacesEvents }
+    ensures events { PlacesEvents }
+    ensures fills { FillsPlaces }
+    ensures ends { EndsBlocks }
+    ensures tight { EndsTight }
 {}

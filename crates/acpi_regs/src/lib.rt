@@ -7,7 +7,8 @@
 //!
 //! The contracts cite the tables of ACPI in `specs/` (`Event`, `Geometry`, `Names`), and the crates above cite the
 //! definitions of histories there: the entries of one actor, the owner and the seekers of the Global Lock, and the side
-//! on which an actor stands. [`laws`] has what follows from the definitions: `==` and the orders say what they seem to.
+//! on which an actor stands. [`laws`] has what follows from the definitions: `==` holds between equal values
+//! alone, events and actors come in their order, and names and places fit each other.
 #![tactic(auto)]
 
 mod actor;

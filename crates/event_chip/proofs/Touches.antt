@@ -1,12 +1,12 @@
 -- Lists of touches.
-use Rattle.std.proofs.Common.{◌≡◌, ℕ, ◌+◌, ◌≤◌, ◌==◌, true, false, min, nat_le, List, [], ◌∷◌, refl, ap, ◌∙◌, arith, rules}
+use Rattle.std.proofs.Common.{◌≡◌, ℕ, ◌+◌, ◌≤◌, true, false, min, nat_le, List, [], ◌∷◌, refl, ap, ◌∙◌, arith, rules}
 use Rattle.event_chip.specs.declared.state.EventKind.{EventKind}
 use Rattle.event_chip.specs.declared.state.EventKind.TheVariants as kind
 use Rattle.event_chip.specs.declared.state.EventState.{EventState}
 use Rattle.event_chip.specs.declared.state.Touch.{Touch}
 use Rattle.event_chip.specs.declared.state.Touch.TheVariants as touch
-use Rattle.event_chip.specs.State.{after_all, asserted, claimed, downed, dropped, finished, is_level, raised, upped}
-use Rattle.event_chip.specs.Laws.{unclaimed, leaves_line, finishes, KeepsRaise, ParksAtSixteen}
+use Rattle.event_chip.specs.State.{after_all, asserted, claimed, downed, dropped, finished, is_level, is_pending, raised, upped}
+use Rattle.event_chip.specs.Laws.{unclaimed, unfinished, leaves_line, finishes, Holds, KeepsRaise, ParksAtSixteen}
 
 -- the status stays
 stays : (k : EventKind) (ts : List Touch) (s : EventState) → is_level k ≡ false → unclaimed ts ≡ true → s.status ≡ true → (after_all k ts s).status ≡ true
@@ -36,8 +36,25 @@ counted (touch.Finish ∷ ts) s l h b =
 counted (touch.Up ∷ ts) s l h b = counted ts (upped s) l h b
 counted (touch.Down ∷ ts) s l h b = counted ts (downed s) l h b
 
-sixteen : (n : ℕ) → (min 16 (0 + n) == 16) ≡ nat_le 16 n
+sixteen : (n : ℕ) → nat_le 16 (min 16 (0 + n)) ≡ nat_le 16 n
 sixteen n = grind (arith, rules)
 
 pub parks : ParksAtSixteen
-parks ts s l = ap (λ n. n == 16) (counted ts (asserted s) l refl (omega arith)) ∙ sixteen (finishes ts)
+parks ts s l = ap (λ n. nat_le 16 n) (counted ts (asserted s) l refl (omega arith)) ∙ sixteen (finishes ts)
+
+-- a held event stays held
+holding : (k : EventKind) (ts : List Touch) (s : EventState) → unfinished ts ≡ true → s.held ≡ true → (after_all k ts s).held ≡ true
+holding k [] s u h = h
+holding k (touch.Raise ∷ ts) s u h = holding k ts (raised s) u h
+holding k (touch.Assert ∷ ts) s u h = holding k ts (asserted s) u h
+holding k (touch.Drop ∷ ts) s u h = holding k ts (dropped s) u h
+holding k (touch.Claim ∷ ts) s u h = cc
+holding k (touch.Finish ∷ ts) s u h = cc
+holding k (touch.Up ∷ ts) s u h = holding k ts (upped s) u h
+holding k (touch.Down ∷ ts) s u h = holding k ts (downed s) u h
+
+idle : (k : EventKind) (s : EventState) → s.held ≡ true → is_pending k s ≡ false
+idle k s h = search rules
+
+pub holds : Holds
+holds k ts s l u = idle k (after_all k ts (claimed k s)) (holding k ts (claimed k s) u l)

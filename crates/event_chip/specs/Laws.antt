@@ -5,7 +5,7 @@ use Rattle.event_chip.specs.declared.state.EventKind.TheVariants as kind
 use Rattle.event_chip.specs.declared.state.EventState.{EventState}
 use Rattle.event_chip.specs.declared.state.Touch.{Touch}
 use Rattle.event_chip.specs.declared.state.Touch.TheVariants as touch
-use Rattle.event_chip.specs.State.{after_all, asserted, downed, dropped, finished, is_level, is_parked, raised, upped}
+use Rattle.event_chip.specs.State.{after_all, asserted, claimed, downed, dropped, finished, is_level, is_listed, is_parked, is_pending, raised, upped}
 
 -- the event is not claimed
 abbrev pub unclaimed : List Touch → Bool
@@ -46,3 +46,22 @@ Revives = (s : EventState) → (is_parked kind.Level (dropped s) ≡ false) × (
 -- references count up to 255 and down to 0, one at a time
 abbrev pub Counts : Type 0
 Counts = (s : EventState) → (s.count < 255 → (upped s).count ≡ s.count + 1) × (s.count ≡ 255 → (upped s).count ≡ 255) × (0 < s.count → (downed s).count + 1 ≡ s.count) × (s.count ≡ 0 → (downed s).count ≡ 0)
+
+-- the run of the event did not end, and it was not claimed
+abbrev pub unfinished : List Touch → Bool
+unfinished [] = true
+unfinished (touch.Claim ∷ ts) = false
+unfinished (touch.Finish ∷ ts) = false
+unfinished (t ∷ ts) = unfinished ts
+
+-- a listed event is not dispatched again before its run has ended, whatever else happens
+abbrev pub Holds : Type 0
+Holds = (k : EventKind) (ts : List Touch) (s : EventState) → is_listed k ≡ true → unfinished ts ≡ true → is_pending k (after_all k ts (claimed k s)) ≡ false
+
+-- a listed event without references is not dispatched
+abbrev pub NeedsReference : Type 0
+NeedsReference = (k : EventKind) (s : EventState) → is_listed k ≡ true → s.count ≡ 0 → is_pending k s ≡ false
+
+-- a level status stays at a claim and at a drop of the line: only the end of the run may clear it
+abbrev pub LevelStays : Type 0
+LevelStays = (s : EventState) → ((claimed kind.Level s).status ≡ s.status) × ((dropped s).status ≡ s.status)

@@ -3,7 +3,7 @@
 -- A status bit says that the event happened. A level event has a line besides: while it is asserted the event is not
 -- over. An event is held from its claim to the end of its handler, which is where an OS masks its source. Sixteen runs
 -- in a row that end under an asserted line park the event.
-use Rattle.std.specs.Prelude.{ℕ, ◌+◌, ◌-◌, ◌==◌, ◌&&◌, ◌||◌, not, Bool, true, false, min, nat_lt, List, [], ◌∷◌, if◌then◌else◌}
+use Rattle.std.specs.Prelude.{ℕ, ◌+◌, ◌-◌, ◌&&◌, ◌||◌, not, Bool, true, false, min, nat_le, nat_lt, List, [], ◌∷◌, if◌then◌else◌}
 use Rattle.event_chip.specs.declared.state.EventKind.{EventKind}
 use Rattle.event_chip.specs.declared.state.EventKind.TheVariants as kind
 use Rattle.event_chip.specs.declared.state.EventState.{EventState}
@@ -74,7 +74,7 @@ after_all k (t ∷ ts) s = after_all k ts (after k t s)
 -- ---- enabled
 
 abbrev pub is_parked : EventKind → EventState → Bool
-is_parked k s = is_level k && (s.storm == 16)
+is_parked k s = is_level k && nat_le 16 s.storm
 
 abbrev pub is_enabled : EventKind → EventState → Bool
 is_enabled k s = (is_always k || nat_lt 0 s.count) && not s.held && not (is_parked k s)

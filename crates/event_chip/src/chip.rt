@@ -72,7 +72,7 @@ impl EventChip {
         self.pending.set(rank, slot.is_pending());
     }
 
-    /// The event happened: its status is set.
+    /// The event happened: its status is set. The chip knows the event, which its `slot` tells.
     pub fn raise(&mut self, event: Event)
         requires { IsKnown self.old event }
         ensures { Touches touch.Raise event self.old self.new }
@@ -80,7 +80,7 @@ impl EventChip {
         self.touch(event, Touch::Raise)
     }
 
-    /// The line of a level event was asserted: its status is set, and the runs that it may repeat are counted anew.
+    /// The line of a level event (`slot(event).kind.is_level()`) was asserted: its status is set, and runs are counted anew.
     pub fn assert_line(&mut self, event: Event)
         requires { IsLevel self.old event }
         ensures { Touches touch.Assert event self.old self.new }
@@ -88,7 +88,7 @@ impl EventChip {
         self.touch(event, Touch::Assert)
     }
 
-    /// The line of a level event was dropped. Its status stays until the event's run ends.
+    /// The line of a level event (`slot(event).kind.is_level()`) was dropped. Its status stays until the event's run ends.
     pub fn drop_line(&mut self, event: Event)
         requires { IsLevel self.old event }
         ensures { Touches touch.Drop event self.old self.new }
@@ -96,8 +96,8 @@ impl EventChip {
         self.touch(event, Touch::Drop)
     }
 
-    /// The OS takes the event's status for dispatch. A listed event is held; the status is cleared unless the event is
-    /// level.
+    /// The OS takes the status of an event that is `pending` for dispatch. A listed event is held; the status is cleared
+    /// unless the event is level.
     pub fn claim(&mut self, event: Event)
         requires { pends self.old event ≡ true }
         ensures { Touches touch.Claim event self.old self.new }
@@ -105,7 +105,7 @@ impl EventChip {
         self.touch(event, Touch::Claim)
     }
 
-    /// A run of the event's handler ended: the event is held no longer, and a level status becomes its line. A run that
+    /// A run of the handler of an event that is held ended: the event is held no longer, and a level status becomes its line. A run that
     /// ends under an asserted line is counted, up to sixteen, and any other sets that count to 0.
     pub fn finish(&mut self, event: Event)
         requires { (slot_of self.old event).state.held ≡ true }
@@ -114,7 +114,7 @@ impl EventChip {
         self.touch(event, Touch::Finish)
     }
 
-    /// One reference more to a listed event, up to 255.
+    /// One reference more to a listed event (`slot(event).kind.is_listed()`), up to 255.
     pub fn up(&mut self, event: Event)
         requires { IsListed self.old event }
         ensures { Touches touch.Up event self.old self.new }
@@ -122,7 +122,7 @@ impl EventChip {
         self.touch(event, Touch::Up)
     }
 
-    /// One reference less to a listed event, down to 0.
+    /// One reference less to a listed event (`slot(event).kind.is_listed()`), down to 0.
     pub fn down(&mut self, event: Event)
         requires { IsListed self.old event }
         ensures { Touches touch.Down event self.old self.new }
@@ -137,7 +137,8 @@ impl EventChip {
         self.slot(event).is_pending()
     }
 
-    /// The first event, in the order in which events are served, that has status and is enabled.
+    /// The first event, in the order in which events are served, that has status and is enabled; `None` exactly where no
+    /// event is pending.
     pub fn first_pending(&self) -> Option<Event>
         ensures { IsFirst self.now result }
     {

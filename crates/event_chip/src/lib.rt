@@ -1,5 +1,5 @@
 //! The registers of every event that can raise an SCI: its status, its line, whether it is held, its count of references,
-//! and the runs that an asserted line has repeated (ACPI 6.5, sections 4.8.3.1, 4.8.4.1, 5.6.4 and 5.6.4.1).
+//! and how many runs in a row ended under an asserted line (ACPI 6.5, sections 4.8.3.1, 4.8.4.1, 5.6.4 and 5.6.4.1).
 //!
 //! The crate stands on `acpi_regs`. Its contract is `specs/State.antt`, which has one record for the state of an event
 //! and one function for each way in which it is touched, and `Touches` of `specs/Chip.antt`: a call of [`EventChip`] changes

@@ -51,7 +51,9 @@ pub struct EventState {
 /// What the chip has of one event.
 #[derive(Clone, Copy, Debug)]
 pub struct Slot {
+    /// How it is enabled and handled.
     pub kind: EventKind,
+    /// Its registers.
     pub state: EventState,
 }
 
@@ -148,7 +150,7 @@ impl Slot {
     pub fn is_parked(self) -> bool
         ensures { result ≡ is_parked self.kind self.state }
     {
-        self.kind.is_level() && self.state.storm == 16
+        self.kind.is_level() && self.state.storm >= 16
     }
 }
 

@@ -8,7 +8,7 @@ const PENDING: u32 = 1;
 const OWNED: u32 = 2;
 
 /// The word that a try to take the lock leaves. Where the word was not owned, the lock is taken and the new word has
-/// Owned alone; where it was owned, the lock is not taken and the new word has both bits.
+/// Owned alone; where it was owned, the lock is not taken and the new word has both bits. `word` is at most 3.
 pub fn acquire_of(word: u32) -> u32
     requires { word ≤ 3 }
     ensures { result ≡ acquired word }
@@ -17,7 +17,7 @@ pub fn acquire_of(word: u32) -> u32
 }
 
 /// The word that a release leaves, with both bits clear. The releaser signals the other side where the old word was
-/// pending.
+/// pending. `word` is at most 3.
 pub fn release_of(word: u32) -> u32
     requires { word ≤ 3 }
     ensures { result ≡ released word }
@@ -25,7 +25,7 @@ pub fn release_of(word: u32) -> u32
     word & !(OWNED | PENDING)
 }
 
-/// Whether the lock is owned.
+/// Whether the lock is owned. `word` is at most 3.
 pub fn owned(word: u32) -> bool
     requires { word ≤ 3 }
     ensures { result ≡ is_owned word }
@@ -33,7 +33,7 @@ pub fn owned(word: u32) -> bool
     word & OWNED != 0
 }
 
-/// Whether the other side waits for the lock.
+/// Whether the other side waits for the lock. `word` is at most 3.
 pub fn pending(word: u32) -> bool
     requires { word ≤ 3 }
     ensures { result ≡ is_pending word }

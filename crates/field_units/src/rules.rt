@@ -1,7 +1,9 @@
 /// Whether an access of a field needs the Global Lock (ACPI 6.5, section 19.6.48).
 #[derive(Clone, Copy, Debug, PartialEq, Eq)]
 pub enum LockRule {
+    /// It does.
     Lock,
+    /// It does not.
     NoLock,
 }
 
@@ -16,7 +18,7 @@ pub enum UpdateRule {
     WriteAsZeros,
 }
 
-/// What stands behind a region's cells (ACPI 6.5, section 5.5.2.4).
+/// The address space of a region: SystemMemory or EmbeddedControl (ACPI 6.5, section 5.5.2.4).
 #[derive(Clone, Copy, Debug, PartialEq, Eq)]
 pub enum RegionKind {
     /// Plain memory.

@@ -1,6 +1,6 @@
-ghost use Rattle.std.specs.Prelude.{◌≡◌, ◌+◌, ◌-◌, ◌*◌, ◌<◌, ◌≤◌, min, None, Some, MatchResult};
+ghost use Rattle.std.specs.Prelude.{◌≡◌, ◌+◌, ◌-◌, ◌*◌, ◌<◌, ◌≤◌, min, None, Some, MatchResult, true};
 ghost use Rattle.field_units.specs.Bits.{bit_of_byte, byte_count, first_byte, is_partial, joined, replaced};
-ghost use Rattle.field_units.specs.Field.{field_fault, most_cells};
+ghost use Rattle.field_units.specs.Field.{field_fault, most_cells, is_controller, needs_lock};
 
 use crate::bits::{join, merge, moved, outside, piece};
 use crate::{FieldFault, LockRule, RegionKind, UpdateRule};
@@ -29,7 +29,7 @@ pub struct FieldUnit {
 
 impl Model for FieldUnit {
     ghost use Rattle.std.specs.Prelude.{◌≡◌, ◌≤◌, None};
-    ghost use Rattle.field_units.specs.Field.{Field, field_fault, most_cells};
+    ghost use Rattle.field_units.specs.Field.{Field, field_fault, most_cells, is_controller, needs_lock};
 
     ghost Value = { Field };
 
@@ -84,7 +84,7 @@ impl FieldUnit {
         self.region
     }
 
-    /// What stands behind the region's cells.
+    /// The address space of the field's region.
     pub fn kind(&self) -> RegionKind
         ensures { result ≡ self.now.kind }
     {
@@ -126,6 +126,13 @@ impl FieldUnit {
         self.update
     }
 
+    /// Whether an access needs the Global Lock: by the field's rule, or since it lies in the controller's region.
+    pub fn needs_lock(&self) -> bool
+        ensures { result ≡ needs_lock self.now }
+    {
+        matches!(self.lock, LockRule::Lock) || matches!(self.kind, RegionKind::Controller)
+    }
+
     /// A field lies in its region, and so do its bytes. The call costs nothing: it says so to a caller's proof.
     pub fn law_fits(&self)
         ensures wide { 1 ≤ self.now.width }
@@ -134,6 +141,7 @@ impl FieldUnit {
         ensures bytes { first_byte self.now + byte_count self.now ≤ self.now.len }
         ensures few { byte_count self.now ≤ 9 }
         ensures short { self.now.len ≤ most_cells self.now.kind }
+        ensures addresses { is_controller self.now.kind ≡ true → self.now.len ≤ 256 }
     {
         let _region = self.region;
     }

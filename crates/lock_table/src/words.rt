@@ -8,7 +8,9 @@ use acpi_regs::{Event, Fixed};
 /// a word.
 #[derive(Clone, Copy, Debug)]
 pub struct Bits {
+    /// Fixed events.
     pub fixed: u64,
+    /// GPEs 0 to 63, 64 to 127, 128 to 191 and 192 to 255.
     pub gpe: [u64; 4],
 }
 
@@ -28,7 +30,7 @@ pub enum Attempt {
     Won,
     /// The lock is owned, and its Pending bit is set now. `found` is the word before.
     Marked { found: u32 },
-    /// The word had changed between the load and the exchange, and is as it was.
+    /// The word had changed between the load and the exchange, and this attempt left it unchanged.
     Moved { loaded: u32, found: u32 },
 }
 
