@@ -1,28 +1,27 @@
 -- Each query code is given once and in its order, whatever calls are made.
-use Rattle.std.proofs.Common.{ℕ, ◌<◌, ◌≡◌, ◌==◌, Bool, true, false, suc, List, [], ◌∷◌, ◌++◌, drop, Option, Some, None, if◌then◌else◌, refl, sym, ◌∙◌, ap, append_assoc, arith}
-use Rattle.std.proofs.lemmas.Bool.{ne_eqb}
+use Rattle.std.proofs.Common.{ℕ, ◌<◌, ◌≡◌, ◌==◌, true, false, suc, List, [], ◌∷◌, ◌++◌, drop, Option, Some, None, if◌then◌else◌, refl, sym, ◌∙◌, ap, subst, inl, inr, append_assoc, arith}
+use Rattle.std.proofs.lemmas.Bool.{cases_eq, ne_eqb}
 use Rattle.std.proofs.lemmas.List.{append-nil}
 use Rattle.std.proofs.lemmas.List.Elements.{All-drop, All-push}
 use Rattle.ec_chip.specs.declared.parts.Half.{Half}
 use Rattle.ec_chip.specs.declared.parts.Half.TheVariants as half
-use Rattle.ec_chip.specs.Calls.{Call, Write, Read, Step, Push, Calm, after_call, code, given_by, given_on, pushed, AreCodes, GivesInOrder}
-use Rattle.ec_chip.specs.Chip.{ChipData, stepped_by, after_step}
-use Rattle.ec_chip.specs.Parts.{codes_after, first_code}
+use Rattle.ec_chip.specs.Calls.{Call, Write, Read, Step, Push, Calm, after_call, code, given_by, given_on, pushed, put_out, AreCodes, GivesInOrder}
+use Rattle.ec_chip.specs.Chip.{ChipData, effect_by, stepped_by, after_step}
+use Rattle.ec_chip.specs.Parts.{codes_after, effect_of, first_code}
 
 first_given : (codes : List ℕ) → AreCodes codes → code (first_code codes) ++ drop 1 codes ≡ codes
 first_given [] are = refl
 first_given (q ∷ later) are =
     ap (λ b. (if b then [] else q ∷ []) ++ later) (ne_eqb q 0 (λ e. omega (arith, e, are 0 0 (omega arith))))
 
-on_query : (codes : List ℕ) (is_query : Bool) → AreCodes codes → (if is_query then code (first_code codes) else []) ++ (if is_query then drop 1 codes else codes) ≡ codes
-on_query codes true are = first_given codes are
-on_query codes false are = refl
-
-taken : (h : Half) (byte : ℕ) (codes : List ℕ) → AreCodes codes → given_on h (Some byte) codes ++ codes_after h byte codes ≡ codes
-taken half.Nothing byte codes are = on_query codes (byte == 132) are
-taken half.Read byte codes are = refl
-taken half.Write byte codes are = refl
-taken (half.WriteAt a) byte codes are = refl
+taken : (h : Half) (byte : ℕ) (cells codes : List ℕ) → AreCodes codes → given_on h (Some byte) (put_out (Some (effect_of h cells codes byte))) ++ codes_after h byte codes ≡ codes
+taken half.Nothing byte cells codes are = elim (cases_eq byte 132) [
+    inl e ↦ subst (λ b. given_on half.Nothing (Some b) (put_out (Some (effect_of half.Nothing cells codes b))) ++ codes_after half.Nothing b codes ≡ codes) (sym e) (first_given codes are)
+  | inr d ↦ rw (ne_eqb byte 132 d) refl
+  ]
+taken half.Read byte cells codes are = refl
+taken half.Write byte cells codes are = refl
+taken (half.WriteAt a) byte cells codes are = refl
 
 kept : (h : Half) (byte : ℕ) (codes : List ℕ) → AreCodes codes → AreCodes (codes_after h byte codes)
 kept half.Nothing byte codes are = elim (byte == 132) as (λ b. AreCodes (if b then drop 1 codes else codes)) [ true ↦ All-drop (λ q. 0 < q) 1 codes are | false ↦ are ]
@@ -30,15 +29,15 @@ kept half.Read byte codes are = are
 kept half.Write byte codes are = are
 kept (half.WriteAt a) byte codes are = are
 
-stepped : (c : ChipData) (input : Option ℕ) → AreCodes c.codes → (given_on c.exchange.half input c.codes ++ (stepped_by c input).codes ≡ c.codes) × AreCodes (stepped_by c input).codes
+stepped : (c : ChipData) (input : Option ℕ) → AreCodes c.codes → (given_on c.exchange.half input (put_out (effect_by c input)) ++ (stepped_by c input).codes ≡ c.codes) × AreCodes (stepped_by c input).codes
 stepped c None are = (nothing c.exchange.half, are)
   where
-    nothing : (h : Half) → given_on h None c.codes ++ c.codes ≡ c.codes
+    nothing : (h : Half) → given_on h None (put_out None) ++ c.codes ≡ c.codes
     nothing half.Nothing = refl
     nothing half.Read = refl
     nothing half.Write = refl
     nothing (half.WriteAt a) = refl
-stepped c (Some byte) are = (taken c.exchange.half byte c.codes are, kept c.exchange.half byte c.codes are)
+stepped c (Some byte) are = (taken c.exchange.half byte c.cells c.codes are, kept c.exchange.half byte c.codes are)
 
 first_is : (q : ℕ) (later : List ℕ) → AreCodes (q ∷ later) → 0 < q
 first_is q later are = are 0 0 (omega arith)

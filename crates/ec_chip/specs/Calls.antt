@@ -1,10 +1,11 @@
 -- Lists of calls: query codes and burst mode over all of them, and what the status register tells.
 use Rattle.std.specs.Prelude.{ℕ, ◌<◌, ◌≡◌, ◌==◌, Bool, not, List, [], ◌∷◌, ◌++◌, length, All, bit_and, Option, Some, is_some, if◌then◌else◌, true, false, take, slice_get, None}
+use Rattle.acpi_regs.specs.declared.entry.Effect.{Effect}
+use Rattle.acpi_regs.specs.declared.entry.Effect.TheVariants as effect
 use Rattle.ec_chip.specs.declared.parts.Half.{Half}
 use Rattle.ec_chip.specs.declared.parts.Half.TheVariants as half
 use Rattle.ec_chip.specs.declared.parts.Port.{Port}
-use Rattle.ec_chip.specs.Chip.{ChipData, status_bits, after_write, after_read, after_step, after_push, after_calm}
-use Rattle.ec_chip.specs.Parts.{first_code}
+use Rattle.ec_chip.specs.Chip.{ChipData, next_effect, status_bits, after_write, after_read, after_step, after_push, after_calm}
 
 pub data Call : Type 0 where
   Write : Port → ℕ → Call
@@ -30,13 +31,18 @@ after_calls (call ∷ later) c = after_calls later (after_call call c)
 abbrev pub code : ℕ → List ℕ
 code q = if q == 0 then [] else q ∷ []
 
--- a query is given the first code
+-- the byte that the controller puts out, if it puts one out
+abbrev pub put_out : Option Effect → List ℕ
+put_out (Some (effect.Out byte)) = code byte
+put_out _ = []
+
+-- what it puts out for a query is a code that it gives
 abbrev pub given_on : Half → Option ℕ → List ℕ → List ℕ
-given_on half.Nothing (Some byte) codes = if byte == 132 then code (first_code codes) else []
-given_on _ _ codes = []
+given_on half.Nothing (Some byte) out = if byte == 132 then out else []
+given_on _ _ out = []
 
 abbrev pub given_by : Call → ChipData → List ℕ
-given_by Step c = given_on c.exchange.half c.exchange.input c.codes
+given_by Step c = given_on c.exchange.half c.exchange.input (put_out (next_effect c))
 given_by _ c = []
 
 abbrev pub given : List Call → ChipData → List ℕ

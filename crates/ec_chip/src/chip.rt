@@ -153,6 +153,7 @@ impl EcChip {
     /// The controller takes the host's byte, and IBF is clear. Idle exactly where it was clear.
     pub fn controller_step(&mut self) -> CtlOutcome
         ensures outcome { result ≡ outcome_of (next_effect self.old) }
+        ensures idle { result ≡ CtlOutcome.Idle ↔ (self.old.exchange.input ≡ None) }
         ensures chip { self.new ≡ after_step self.old }
     {
         match self.input {

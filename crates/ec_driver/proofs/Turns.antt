@@ -3,7 +3,8 @@ use Rattle.std.proofs.Common.{ℕ, zero, suc, ◌≤◌, ◌≡◌, Bool, true, 
 use Rattle.std.proofs.lemmas.List.{append-nil}
 use Rattle.acpi_regs.specs.declared.entry.Request.{Request}
 use Rattle.acpi_regs.specs.declared.entry.Request.TheVariants as request
-use Rattle.ec_chip.specs.Chip.{ChipData, quiet}
+use Rattle.acpi_regs.specs.declared.entry.Effect.TheVariants as effect
+use Rattle.ec_chip.specs.Chip.{ChipData, next_effect, quiet}
 use Rattle.ec_chip.specs.Parts.{first_code}
 use Rattle.ec_driver.specs.Driver.{finished}
 use Rattle.ec_driver.specs.Turns.{AlwaysDoes, AlwaysFollows, Does, FollowsWire, GivesFirst, Turn, World, Driver, Controller, Push, after_turn, after_turns, begun, pushed}
@@ -57,7 +58,7 @@ world_at r c n q codes command = record {
 
 -- the codes that wait, after these turns
 abbrev pub CodesAt : Request → ℕ → ChipData → List Turn → ℕ → List ℕ → Type 0
-CodesAt request.Qr (suc (suc n)) c done q codes = GivesFirst c.codes done q codes
+CodesAt request.Qr (suc (suc n)) c done q codes = GivesFirst c done q codes
 CodesAt r n c done q codes = codes ≡ c.codes ++ pushed done
 
 pub record Reached (r : Request) (c : ChipData) (done : List Turn) (w : World) : Type 0 where
@@ -81,13 +82,14 @@ more_codes : (c : ChipData) (done : List Turn) (t : Turn) (codes : List ℕ) →
 more_codes c done t codes are =
     ap (λ l. l ++ pushed (t ∷ [])) are ∙ (append_assoc c.codes (pushed done) (pushed (t ∷ [])) ∙ ap (λ l. c.codes ++ l) (sym (pushed-append done (t ∷ []))))
 
-more_given : (all : List ℕ) (done : List Turn) (t : Turn) (q : ℕ) (codes : List ℕ) → GivesFirst all done q codes → GivesFirst all (done ++ t ∷ []) q (codes ++ pushed (t ∷ []))
-more_given all done t q codes g = record {
+more_given : (c : ChipData) (done : List Turn) (t : Turn) (q : ℕ) (codes : List ℕ) → GivesFirst c done q codes → GivesFirst c (done ++ t ∷ []) q (codes ++ pushed (t ∷ []))
+more_given c done t q codes g = record {
   earlier = g.earlier;
   later = g.later ++ t ∷ [];
   split = sym (append_assoc g.earlier (Controller ∷ g.later) (t ∷ [])) ∙ ap (λ l. l ++ t ∷ []) g.split;
+  puts = g.puts;
   first = g.first;
-  leaves = ap (λ l. l ++ pushed (t ∷ [])) g.leaves ∙ (append_assoc (drop 1 (all ++ pushed g.earlier)) (pushed g.later) (pushed (t ∷ [])) ∙ ap (λ l. drop 1 (all ++ pushed g.earlier) ++ l) (sym (pushed-append g.later (t ∷ []))));
+  leaves = ap (λ l. l ++ pushed (t ∷ [])) g.leaves ∙ (append_assoc (drop 1 (c.codes ++ pushed g.earlier)) (pushed g.later) (pushed (t ∷ [])) ∙ ap (λ l. drop 1 (c.codes ++ pushed g.earlier) ++ l) (sym (pushed-append g.later (t ∷ []))));
 }
 
 codes_more : (r : Request) (n : ℕ) (c : ChipData) (done : List Turn) (t : Turn) (q : ℕ) (codes : List ℕ) → CodesAt r n c done q codes → CodesAt r n c (done ++ t ∷ []) q (codes ++ pushed (t ∷ []))
@@ -97,7 +99,7 @@ codes_more request.Be n c done t q codes are = more_codes c done t codes are
 codes_more request.Bd n c done t q codes are = more_codes c done t codes are
 codes_more request.Qr zero c done t q codes are = more_codes c done t codes are
 codes_more request.Qr (suc zero) c done t q codes are = more_codes c done t codes are
-codes_more request.Qr (suc (suc n)) c done t q codes are = more_given c.codes done t q codes are
+codes_more request.Qr (suc (suc n)) c done t q codes are = more_given c done t q codes are
 
 codes_same : (r : Request) (n : ℕ) (c : ChipData) (done : List Turn) (t : Turn) (q : ℕ) (codes : List ℕ) → pushed (t ∷ []) ≡ [] → CodesAt r n c done q codes → CodesAt r n c (done ++ t ∷ []) q codes
 codes_same r n c done t q codes none are =
@@ -136,62 +138,63 @@ host_at request.Qr c done (suc (suc zero)) q codes command within are = record {
 host_at request.Qr c done (suc (suc (suc zero))) q codes command within are = record { n = 3; q = q; codes = codes; command = command; at = refl; within = within; codes_at = codes_same request.Qr 3 c done Driver q codes refl are }
 host_at request.Qr c done (suc (suc (suc (suc n)))) q codes command within are = absurd (omega arith)
 
-given_now : (c : ChipData) (done : List Turn) (codes : List ℕ) → codes ≡ c.codes ++ pushed done → GivesFirst c.codes (done ++ Controller ∷ []) (first_code codes) (drop 1 codes)
-given_now c done codes are = record {
+given_now : (c : ChipData) (done : List Turn) (codes : List ℕ) → codes ≡ c.codes ++ pushed done → next_effect (after_turns done (begun request.Qr c)).chip ≡ Some (effect.Out (first_code codes)) → GivesFirst c (done ++ Controller ∷ []) (first_code codes) (drop 1 codes)
+given_now c done codes are puts = record {
   earlier = done;
   later = [];
   split = refl;
+  puts = puts;
   first = ap first_code are;
   leaves = ap (drop 1) are ∙ sym (append-nil (drop 1 (c.codes ++ pushed done)));
 }
 
-pub controller_at : (r : Request) (c : ChipData) (done : List Turn) (n q : ℕ) (codes : List ℕ) (command : Bool) → n ≤ length (wire r 0) → CodesAt r n c done q codes → Reached r c (done ++ Controller ∷ []) (after_turn Controller (world_at r c n q codes command))
-controller_at (request.Rd x) c done zero q codes command within are = record { n = 0; q = q; codes = codes; command = command; at = refl; within = within; codes_at = codes_same (request.Rd x) 0 c done Controller q codes refl are }
-controller_at (request.Rd x) c done (suc zero) q codes command within are = record { n = 2; q = q; codes = codes; command = command; at = refl; within = omega arith; codes_at = codes_same (request.Rd x) 2 c done Controller q codes refl are }
-controller_at (request.Rd x) c done (suc (suc zero)) q codes command within are = record { n = 2; q = q; codes = codes; command = command; at = refl; within = within; codes_at = codes_same (request.Rd x) 2 c done Controller q codes refl are }
-controller_at (request.Rd x) c done (suc (suc (suc zero))) q codes command within are = record { n = 4; q = q; codes = codes; command = command; at = refl; within = omega arith; codes_at = codes_same (request.Rd x) 4 c done Controller q codes refl are }
-controller_at (request.Rd x) c done (suc (suc (suc (suc zero)))) q codes command within are = record { n = 4; q = q; codes = codes; command = command; at = refl; within = within; codes_at = codes_same (request.Rd x) 4 c done Controller q codes refl are }
-controller_at (request.Rd x) c done (suc (suc (suc (suc (suc zero))))) q codes command within are = record { n = 5; q = q; codes = codes; command = command; at = refl; within = within; codes_at = codes_same (request.Rd x) 5 c done Controller q codes refl are }
-controller_at (request.Rd x) c done (suc (suc (suc (suc (suc (suc n)))))) q codes command within are = absurd (omega arith)
-controller_at (request.Wr x w) c done zero q codes command within are = record { n = 0; q = q; codes = codes; command = command; at = refl; within = within; codes_at = codes_same (request.Wr x w) 0 c done Controller q codes refl are }
-controller_at (request.Wr x w) c done (suc zero) q codes command within are = record { n = 2; q = q; codes = codes; command = command; at = refl; within = omega arith; codes_at = codes_same (request.Wr x w) 2 c done Controller q codes refl are }
-controller_at (request.Wr x w) c done (suc (suc zero)) q codes command within are = record { n = 2; q = q; codes = codes; command = command; at = refl; within = within; codes_at = codes_same (request.Wr x w) 2 c done Controller q codes refl are }
-controller_at (request.Wr x w) c done (suc (suc (suc zero))) q codes command within are = record { n = 4; q = q; codes = codes; command = command; at = refl; within = omega arith; codes_at = codes_same (request.Wr x w) 4 c done Controller q codes refl are }
-controller_at (request.Wr x w) c done (suc (suc (suc (suc zero)))) q codes command within are = record { n = 4; q = q; codes = codes; command = command; at = refl; within = within; codes_at = codes_same (request.Wr x w) 4 c done Controller q codes refl are }
-controller_at (request.Wr x w) c done (suc (suc (suc (suc (suc zero))))) q codes command within are = record { n = 6; q = q; codes = codes; command = command; at = refl; within = omega arith; codes_at = codes_same (request.Wr x w) 6 c done Controller q codes refl are }
-controller_at (request.Wr x w) c done (suc (suc (suc (suc (suc (suc zero)))))) q codes command within are = record { n = 6; q = q; codes = codes; command = command; at = refl; within = within; codes_at = codes_same (request.Wr x w) 6 c done Controller q codes refl are }
-controller_at (request.Wr x w) c done (suc (suc (suc (suc (suc (suc (suc n))))))) q codes command within are = absurd (omega arith)
-controller_at request.Be c done zero q codes command within are = record { n = 0; q = q; codes = codes; command = command; at = refl; within = within; codes_at = codes_same request.Be 0 c done Controller q codes refl are }
-controller_at request.Be c done (suc zero) q codes command within are = record { n = 2; q = q; codes = codes; command = command; at = refl; within = omega arith; codes_at = codes_same request.Be 2 c done Controller q codes refl are }
-controller_at request.Be c done (suc (suc zero)) q codes command within are = record { n = 2; q = q; codes = codes; command = command; at = refl; within = within; codes_at = codes_same request.Be 2 c done Controller q codes refl are }
-controller_at request.Be c done (suc (suc (suc zero))) q codes command within are = record { n = 3; q = q; codes = codes; command = command; at = refl; within = within; codes_at = codes_same request.Be 3 c done Controller q codes refl are }
-controller_at request.Be c done (suc (suc (suc (suc n)))) q codes command within are = absurd (omega arith)
-controller_at request.Bd c done zero q codes command within are = record { n = 0; q = q; codes = codes; command = command; at = refl; within = within; codes_at = codes_same request.Bd 0 c done Controller q codes refl are }
-controller_at request.Bd c done (suc zero) q codes command within are = record { n = 2; q = q; codes = codes; command = command; at = refl; within = omega arith; codes_at = codes_same request.Bd 2 c done Controller q codes refl are }
-controller_at request.Bd c done (suc (suc zero)) q codes command within are = record { n = 2; q = q; codes = codes; command = command; at = refl; within = within; codes_at = codes_same request.Bd 2 c done Controller q codes refl are }
-controller_at request.Bd c done (suc (suc (suc n))) q codes command within are = absurd (omega arith)
-controller_at request.Qr c done zero q codes command within are = record { n = 0; q = q; codes = codes; command = command; at = refl; within = within; codes_at = codes_same request.Qr 0 c done Controller q codes refl are }
-controller_at request.Qr c done (suc zero) q codes command within are = record {
+pub controller_at : (r : Request) (c : ChipData) (done : List Turn) (n q : ℕ) (codes : List ℕ) (command : Bool) → n ≤ length (wire r 0) → CodesAt r n c done q codes → next_effect (after_turns done (begun r c)).chip ≡ next_effect (world_at r c n q codes command).chip → Reached r c (done ++ Controller ∷ []) (after_turn Controller (world_at r c n q codes command))
+controller_at (request.Rd x) c done zero q codes command within are was = record { n = 0; q = q; codes = codes; command = command; at = refl; within = within; codes_at = codes_same (request.Rd x) 0 c done Controller q codes refl are }
+controller_at (request.Rd x) c done (suc zero) q codes command within are was = record { n = 2; q = q; codes = codes; command = command; at = refl; within = omega arith; codes_at = codes_same (request.Rd x) 2 c done Controller q codes refl are }
+controller_at (request.Rd x) c done (suc (suc zero)) q codes command within are was = record { n = 2; q = q; codes = codes; command = command; at = refl; within = within; codes_at = codes_same (request.Rd x) 2 c done Controller q codes refl are }
+controller_at (request.Rd x) c done (suc (suc (suc zero))) q codes command within are was = record { n = 4; q = q; codes = codes; command = command; at = refl; within = omega arith; codes_at = codes_same (request.Rd x) 4 c done Controller q codes refl are }
+controller_at (request.Rd x) c done (suc (suc (suc (suc zero)))) q codes command within are was = record { n = 4; q = q; codes = codes; command = command; at = refl; within = within; codes_at = codes_same (request.Rd x) 4 c done Controller q codes refl are }
+controller_at (request.Rd x) c done (suc (suc (suc (suc (suc zero))))) q codes command within are was = record { n = 5; q = q; codes = codes; command = command; at = refl; within = within; codes_at = codes_same (request.Rd x) 5 c done Controller q codes refl are }
+controller_at (request.Rd x) c done (suc (suc (suc (suc (suc (suc n)))))) q codes command within are was = absurd (omega arith)
+controller_at (request.Wr x w) c done zero q codes command within are was = record { n = 0; q = q; codes = codes; command = command; at = refl; within = within; codes_at = codes_same (request.Wr x w) 0 c done Controller q codes refl are }
+controller_at (request.Wr x w) c done (suc zero) q codes command within are was = record { n = 2; q = q; codes = codes; command = command; at = refl; within = omega arith; codes_at = codes_same (request.Wr x w) 2 c done Controller q codes refl are }
+controller_at (request.Wr x w) c done (suc (suc zero)) q codes command within are was = record { n = 2; q = q; codes = codes; command = command; at = refl; within = within; codes_at = codes_same (request.Wr x w) 2 c done Controller q codes refl are }
+controller_at (request.Wr x w) c done (suc (suc (suc zero))) q codes command within are was = record { n = 4; q = q; codes = codes; command = command; at = refl; within = omega arith; codes_at = codes_same (request.Wr x w) 4 c done Controller q codes refl are }
+controller_at (request.Wr x w) c done (suc (suc (suc (suc zero)))) q codes command within are was = record { n = 4; q = q; codes = codes; command = command; at = refl; within = within; codes_at = codes_same (request.Wr x w) 4 c done Controller q codes refl are }
+controller_at (request.Wr x w) c done (suc (suc (suc (suc (suc zero))))) q codes command within are was = record { n = 6; q = q; codes = codes; command = command; at = refl; within = omega arith; codes_at = codes_same (request.Wr x w) 6 c done Controller q codes refl are }
+controller_at (request.Wr x w) c done (suc (suc (suc (suc (suc (suc zero)))))) q codes command within are was = record { n = 6; q = q; codes = codes; command = command; at = refl; within = within; codes_at = codes_same (request.Wr x w) 6 c done Controller q codes refl are }
+controller_at (request.Wr x w) c done (suc (suc (suc (suc (suc (suc (suc n))))))) q codes command within are was = absurd (omega arith)
+controller_at request.Be c done zero q codes command within are was = record { n = 0; q = q; codes = codes; command = command; at = refl; within = within; codes_at = codes_same request.Be 0 c done Controller q codes refl are }
+controller_at request.Be c done (suc zero) q codes command within are was = record { n = 2; q = q; codes = codes; command = command; at = refl; within = omega arith; codes_at = codes_same request.Be 2 c done Controller q codes refl are }
+controller_at request.Be c done (suc (suc zero)) q codes command within are was = record { n = 2; q = q; codes = codes; command = command; at = refl; within = within; codes_at = codes_same request.Be 2 c done Controller q codes refl are }
+controller_at request.Be c done (suc (suc (suc zero))) q codes command within are was = record { n = 3; q = q; codes = codes; command = command; at = refl; within = within; codes_at = codes_same request.Be 3 c done Controller q codes refl are }
+controller_at request.Be c done (suc (suc (suc (suc n)))) q codes command within are was = absurd (omega arith)
+controller_at request.Bd c done zero q codes command within are was = record { n = 0; q = q; codes = codes; command = command; at = refl; within = within; codes_at = codes_same request.Bd 0 c done Controller q codes refl are }
+controller_at request.Bd c done (suc zero) q codes command within are was = record { n = 2; q = q; codes = codes; command = command; at = refl; within = omega arith; codes_at = codes_same request.Bd 2 c done Controller q codes refl are }
+controller_at request.Bd c done (suc (suc zero)) q codes command within are was = record { n = 2; q = q; codes = codes; command = command; at = refl; within = within; codes_at = codes_same request.Bd 2 c done Controller q codes refl are }
+controller_at request.Bd c done (suc (suc (suc n))) q codes command within are was = absurd (omega arith)
+controller_at request.Qr c done zero q codes command within are was = record { n = 0; q = q; codes = codes; command = command; at = refl; within = within; codes_at = codes_same request.Qr 0 c done Controller q codes refl are }
+controller_at request.Qr c done (suc zero) q codes command within are was = record {
   n = 2;
   q = first_code codes;
   codes = drop 1 codes;
   command = command;
   at = refl;
   within = omega arith;
-  codes_at = given_now c done codes are;
+  codes_at = given_now c done codes are was;
 }
-controller_at request.Qr c done (suc (suc zero)) q codes command within are = record { n = 2; q = q; codes = codes; command = command; at = refl; within = within; codes_at = codes_same request.Qr 2 c done Controller q codes refl are }
-controller_at request.Qr c done (suc (suc (suc zero))) q codes command within are = record { n = 3; q = q; codes = codes; command = command; at = refl; within = within; codes_at = codes_same request.Qr 3 c done Controller q codes refl are }
-controller_at request.Qr c done (suc (suc (suc (suc n)))) q codes command within are = absurd (omega arith)
+controller_at request.Qr c done (suc (suc zero)) q codes command within are was = record { n = 2; q = q; codes = codes; command = command; at = refl; within = within; codes_at = codes_same request.Qr 2 c done Controller q codes refl are }
+controller_at request.Qr c done (suc (suc (suc zero))) q codes command within are was = record { n = 3; q = q; codes = codes; command = command; at = refl; within = within; codes_at = codes_same request.Qr 3 c done Controller q codes refl are }
+controller_at request.Qr c done (suc (suc (suc (suc n)))) q codes command within are was = absurd (omega arith)
 
 -- ---- every order of turns
 
-reached_turn : (r : Request) (c : ChipData) (done : List Turn) (t : Turn) (w : World) → Reached r c done w → Reached r c (done ++ t ∷ []) (after_turn t w)
-reached_turn r c done Driver w x =
+reached_turn : (r : Request) (c : ChipData) (done : List Turn) (t : Turn) (w : World) → after_turns done (begun r c) ≡ w → Reached r c done w → Reached r c (done ++ t ∷ []) (after_turn t w)
+reached_turn r c done Driver w was x =
     subst (λ v. Reached r c (done ++ Driver ∷ []) (after_turn Driver v)) (sym x.at) (host_at r c done x.n x.q x.codes x.command x.within x.codes_at)
-reached_turn r c done Controller w x =
-    subst (λ v. Reached r c (done ++ Controller ∷ []) (after_turn Controller v)) (sym x.at) (controller_at r c done x.n x.q x.codes x.command x.within x.codes_at)
-reached_turn r c done (Push p) w x = record {
+reached_turn r c done Controller w was x =
+    subst (λ v. Reached r c (done ++ Controller ∷ []) (after_turn Controller v)) (sym x.at) (controller_at r c done x.n x.q x.codes x.command x.within x.codes_at (ap (λ v. next_effect v.chip) (was ∙ x.at)))
+reached_turn r c done (Push p) w was x = record {
   n = x.n;
   q = x.q;
   codes = x.codes ++ p ∷ [];
@@ -201,10 +204,14 @@ reached_turn r c done (Push p) w x = record {
   codes_at = codes_more r x.n c done (Push p) x.q x.codes x.codes_at;
 }
 
-reached_turns : (r : Request) (c : ChipData) (turns done : List Turn) (w : World) → Reached r c done w → Reached r c (done ++ turns) (after_turns turns w)
-reached_turns r c [] done w x = subst (λ l. Reached r c l w) (sym (append-nil done)) x
-reached_turns r c (t ∷ later) done w x =
-    subst (λ l. Reached r c l (after_turns later (after_turn t w))) (append_assoc done (t ∷ []) later) (reached_turns r c later (done ++ t ∷ []) (after_turn t w) (reached_turn r c done t w x))
+turns_more : (done : List Turn) (t : Turn) (w : World) → after_turns (done ++ t ∷ []) w ≡ after_turn t (after_turns done w)
+turns_more [] t w = refl
+turns_more (d ∷ done) t w = turns_more done t (after_turn d w)
+
+reached_turns : (r : Request) (c : ChipData) (turns done : List Turn) (w : World) → after_turns done (begun r c) ≡ w → Reached r c done w → Reached r c (done ++ turns) (after_turns turns w)
+reached_turns r c [] done w was x = subst (λ l. Reached r c l w) (sym (append-nil done)) x
+reached_turns r c (t ∷ later) done w was x =
+    subst (λ l. Reached r c l (after_turns later (after_turn t w))) (append_assoc done (t ∷ []) later) (reached_turns r c later (done ++ t ∷ []) (after_turn t w) (turns_more done t (begun r c) ∙ ap (after_turn t) was) (reached_turn r c done t w was x))
 
 reached_start : (r : Request) (c : ChipData) → c.exchange ≡ quiet → Reached r c [] (begun r c)
 reached_start (request.Rd x) c rests = record { n = 0; q = 0; codes = c.codes; command = c.command; at = ap (λ e. begun (request.Rd x) (record c { exchange = e })) rests; within = omega arith; codes_at = sym (append-nil c.codes) }
@@ -214,7 +221,7 @@ reached_start request.Bd c rests = record { n = 0; q = 0; codes = c.codes; comma
 reached_start request.Qr c rests = record { n = 0; q = 0; codes = c.codes; command = c.command; at = ap (λ e. begun request.Qr (record c { exchange = e })) rests; within = omega arith; codes_at = sym (append-nil c.codes) }
 
 reached : (r : Request) (c : ChipData) (turns : List Turn) → c.exchange ≡ quiet → Reached r c turns (after_turns turns (begun r c))
-reached r c turns rests = reached_turns r c turns [] (begun r c) (reached_start r c rests)
+reached r c turns rests = reached_turns r c turns [] (begun r c) refl (reached_start r c rests)
 
 -- ---- what each place says
 

@@ -2,6 +2,7 @@
 -- must.
 use Rattle.std.specs.Prelude.{ℕ, ◌≡◌, Bool, true, false, List, [], ◌∷◌, ◌++◌, drop, slice_get, slice_index, slice_set, Option, Some, None, if◌then◌else◌}
 use Rattle.acpi_regs.specs.declared.entry.Effect.{Effect}
+use Rattle.acpi_regs.specs.declared.entry.Effect.TheVariants as effect
 use Rattle.acpi_regs.specs.declared.entry.HostMove.{HostMove}
 use Rattle.acpi_regs.specs.declared.entry.Request.{Request}
 use Rattle.acpi_regs.specs.declared.entry.Request.TheVariants as request
@@ -78,13 +79,15 @@ AlwaysFollows r c turns = c.exchange ≡ quiet → FollowsWire r c (after_turns 
 
 -- ---- what a finished transaction has done
 
--- at one of the controller's turns the code was the first that waited, or 00 where none did, and it left the list
-pub record GivesFirst (first_codes : List ℕ) (turns : List Turn) (q : ℕ) (codes : List ℕ) : Type 0 where
+-- at the turn at which the controller put the code out, it was the first that waited, or 00 where none did, and it left
+-- the list
+pub record GivesFirst (old : ChipData) (turns : List Turn) (q : ℕ) (codes : List ℕ) : Type 0 where
   pub earlier : List Turn
   pub later : List Turn
   pub split : earlier ++ Controller ∷ later ≡ turns
-  pub first : q ≡ first_code (first_codes ++ pushed earlier)
-  pub leaves : codes ≡ drop 1 (first_codes ++ pushed earlier) ++ pushed later
+  pub puts : next_effect (after_turns earlier (begun request.Qr old)).chip ≡ Some (effect.Out q)
+  pub first : q ≡ first_code (old.codes ++ pushed earlier)
+  pub leaves : codes ≡ drop 1 (old.codes ++ pushed earlier) ++ pushed later
 
 -- the cells, the query codes and burst mode of a controller with nothing on its way
 pub record Has (c : ChipData) (cells codes : List ℕ) (burst : Bool) : Type 0 where
@@ -106,7 +109,7 @@ Does request.Be old turns taken new =
 Does request.Bd old turns taken new =
     (taken ≡ None) × Has new old.cells (old.codes ++ pushed turns) false
 Does request.Qr old turns taken new =
-    (q : ℕ) × (taken ≡ Some q) × GivesFirst old.codes turns q new.codes × Has new old.cells new.codes old.burst
+    (q : ℕ) × (taken ≡ Some q) × GivesFirst old turns q new.codes × Has new old.cells new.codes old.burst
 
 -- whatever the order of turns, once the transaction is finished
 abbrev pub AlwaysDoes : Request → ChipData → List Turn → Type 0
