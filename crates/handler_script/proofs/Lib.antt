@@ -1,0 +1,4 @@
+pub mod Lefts
+pub mod Plans
+pub mod Sounds
+pub mod Stages
