@@ -1,11 +1,11 @@
 -- What stands at each stage of an operation on a field.
-use Rattle.std.proofs.Common.{◌≡◌, ℕ, zero, suc, ◌+◌, ◌-◌, ◌%◌, ◌^◌, ◌<◌, ◌≤◌, Bool, true, false, Option, Some, None, refl, sym, ap, ◌∙◌, arith}
+use Rattle.std.proofs.Common.{◌≡◌, ℕ, suc, ◌+◌, ◌-◌, ◌%◌, ◌^◌, ◌<◌, ◌≤◌, Bool, true, false, Some, ap, ◌∙◌, arith}
 use Rattle.std.proofs.Math.Pow.{mod-mod-pow}
-use Rattle.field_units.specs.Bits.{byte_count, joined, replaced}
+use Rattle.field_units.specs.Bits.{joined, replaced}
 use Rattle.field_units.specs.Field.{Field}
 use Rattle.handler_script.specs.declared.stage.Stage.TheVariants as stage
 use Rattle.handler_script.specs.Parts.{read_act, reads_first, write_act}
-use Rattle.handler_script.specs.Plan.{Plan, Do, End, next_act, old_byte, plan_after, read_from, write_from}
+use Rattle.handler_script.specs.Plan.{Plan, Do, next_act, old_byte, plan_after, read_from, write_from}
 
 pub writing : (j k : ℕ) → stage.Writing j ≡ stage.Writing k → j ≡ k
 writing j k e = cc

@@ -1,12 +1,12 @@
 -- What the plan of a script comes to, in sentences.
-use Rattle.std.specs.Prelude.{◌≡◌, ℕ, Bool, false, List, [], ◌∷◌, ◌++◌, Option, Some, None, if◌then◌else◌}
+use Rattle.std.specs.Prelude.{◌≡◌, ℕ, false, List, [], ◌∷◌, ◌++◌, Some, None, if◌then◌else◌}
 use Rattle.field_units.specs.Field.{Field}
 use Rattle.handler_script.specs.declared.act.Act.{Act}
 use Rattle.handler_script.specs.declared.op.Op.{Op}
 use Rattle.handler_script.specs.Accepts.{Accepted}
 use Rattle.handler_script.specs.Acts.{brings}
 use Rattle.handler_script.specs.Locked.{Locked}
-use Rattle.handler_script.specs.Plan.{Plan, acts_of, next_act, plan, plan_after, query_plan}
+use Rattle.handler_script.specs.Plan.{Plan, acts_of, next_act, plan, plan_after}
 
 -- the list of acts for more answers begins with that for fewer, but that the first act without an answer may go on
 abbrev pub GoesOn : Type 0

@@ -92,7 +92,7 @@ impl Cursor {
         ensures further { self.now.op < result.op }
         ensures within { result.op ≤ length ops.now }
     {
-        let passed = if self.place.last == value { 0 } else { count };
+        let passed = skipped(self.place.last, value, count);
         Cursor { op: self.op + 1 + passed, ..*self }
     }
 
@@ -144,6 +144,13 @@ impl Cursor {
         let place = Place { stage: Stage::Before, last };
         Cursor { op: self.op + 1, place, held }
     }
+}
+
+/// How many operations a skip passes over.
+fn skipped(last: u64, value: u64, count: u16) -> u16
+    ensures { result ≡ (if last == value then 0 else count) }
+{
+    if last == value { 0 } else { count }
 }
 
 /// The field that an operation names.
