@@ -1,4 +1,5 @@
 pub mod Lefts
+pub mod Locks
 pub mod Plans
 pub mod Sounds
 pub mod Stages

@@ -1,3 +1,6 @@
+ghost use Rattle.std.specs.Prelude.{◌≡◌};
+ghost use Rattle.handler_script.specs.Acts.{brings};
+
 use acpi_regs::{Cell, Event, Request};
 
 /// What a script does next to its machine.
@@ -27,4 +30,17 @@ pub enum Act {
     Assert(Event),
     /// Put a query code into the controller's list.
     Push(u8),
+}
+
+impl Act {
+    /// Whether the act is answered with a byte: a read is, and of the controller's requests Rd and Be (ACPI 6.5, sections
+    /// 12.3.1 and 12.3.3).
+    pub fn brings(&self) -> bool
+        ensures { result ≡ brings self.now }
+    {
+        matches!(
+            self,
+            Act::Read(_) | Act::Ask(Request::Rd(_)) | Act::Ask(Request::Be)
+        )
+    }
 }

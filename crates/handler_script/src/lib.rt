@@ -25,5 +25,5 @@ pub use fault::ScriptFault;
 pub use op::Op;
 pub use script::Script;
 
-//#[cfg(test)]
-//mod tests;
+#[cfg(test)]
+mod tests;
