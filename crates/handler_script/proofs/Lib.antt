@@ -1,3 +1,4 @@
+pub mod Exact
 pub mod Lefts
 pub mod Locks
 pub mod Plans
