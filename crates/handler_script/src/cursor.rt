@@ -31,6 +31,8 @@ impl Cursor {
 
     /// The next act, or `None` where the script has ended. The script is one that is accepted with these fields, and the
     /// cursor has passed acts of this script with these fields alone.
+    ///
+    /// It takes constant time, but for skips at the begin of a script, before any act is answered.
     pub fn next(&self, script: &Script, fields: &[FieldUnit]) -> Option<Act>
         requires accepted { Accepted fields.now script.now }
         requires stands { stands fields.now script.now self.now ≡ true }
@@ -44,8 +46,8 @@ impl Cursor {
         }
     }
 
-    /// Passes the next act, with the byte that it was answered where it brings one: a read, and of the controller's requests
-    /// Rd and Be.
+    /// Passes the next act, with the byte that it was answered where it brings one ([`Act::brings`]), and the skips that
+    /// follow it. The script, the fields and the cursor are as in [`Cursor::next`].
     pub fn answer(&mut self, script: &Script, fields: &[FieldUnit], byte: Option<u8>)
         requires accepted { Accepted fields.now script.now }
         requires stands { stands fields.now script.now self.old ≡ true }
@@ -57,7 +59,8 @@ impl Cursor {
         let ops = script.ops();
         let cursor = self.past_skips(ops, fields);
         if let Some(op) = cursor.at(ops) {
-            *self = cursor.after(op, ops, fields, byte.unwrap_or(0));
+            let cursor = cursor.after(op, ops, fields, byte.unwrap_or(0));
+            *self = cursor.past_skips(ops, fields);
         }
     }
 
