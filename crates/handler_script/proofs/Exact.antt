@@ -1,5 +1,5 @@
 -- `==` of two acts, case by case.
-use Rattle.std.proofs.Common.{◌≡◌, refl, Bool, true, false, ◌&&◌, IsTrue, subst, rules}
+use Rattle.std.proofs.Common.{◌≡◌, refl, Bool, IsTrue, subst, rules}
 use Rattle.acpi_regs.specs.Comparisons.{IsExact}
 use Rattle.acpi_regs.specs.declared.event.Event.{Event}
 use Rattle.acpi_regs.specs.declared.entry.Cell.{Cell}

@@ -1,5 +1,5 @@
 -- An accepted script's acts stand to the lock as they should.
-use Rattle.std.proofs.Common.{◌≡◌, ℕ, zero, suc, ◌+◌, ◌-◌, ◌%◌, ◌^◌, ◌==◌, Bool, true, false, cond, ◌||◌, ◌&&◌, not, nat_lt, List, [], ◌∷◌, length, take, Option, Some, None, is_some, option_map, slice_get, refl, sym, ap, subst, ◌∙◌, arith}
+use Rattle.std.proofs.Common.{◌≡◌, ℕ, zero, suc, ◌+◌, ◌%◌, ◌^◌, ◌==◌, Bool, true, false, cond, ◌||◌, ◌&&◌, not, nat_lt, List, [], ◌∷◌, length, take, Option, Some, None, is_some, option_map, slice_get, refl, sym, ap, ◌∙◌}
 use Rattle.std.specs.List.{list_all}
 use Rattle.std.proofs.lemmas.Bool.{and_parts}
 use Rattle.acpi_regs.specs.declared.actor.Side.{Side}
@@ -9,16 +9,15 @@ use Rattle.field_units.specs.declared.rules.RegionKind.{RegionKind}
 use Rattle.field_units.specs.declared.rules.RegionKind.TheVariants as kind
 use Rattle.field_units.specs.Bits.{byte_count, joined, replaced}
 use Rattle.field_units.specs.Field.{Field, is_controller, is_lock, needs_lock}
-use Rattle.handler_script.specs.declared.act.Act.{Act}
 use Rattle.handler_script.specs.declared.act.Act.TheVariants as act
 use Rattle.handler_script.specs.declared.fault.ScriptFault.TheVariants as fault
 use Rattle.handler_script.specs.declared.op.Op.{Op}
 use Rattle.handler_script.specs.declared.op.Op.TheVariants as op
-use Rattle.handler_script.specs.Accepts.{Accepted, faults_from, is_balanced, is_no_hold, is_sound_skip, open_after, script_fault}
+use Rattle.handler_script.specs.Accepts.{faults_from, is_balanced, is_no_hold, is_sound_skip, open_after, script_fault}
 use Rattle.handler_script.specs.Laws.{LocksInTurn}
-use Rattle.handler_script.specs.Locked.{Locked, held_by, is_lock_step}
-use Rattle.handler_script.specs.Parts.{bursts, cell_of, read_act, read_in, reads_first, takes_lock, write_act, write_in}
-use Rattle.handler_script.specs.Plan.{Plan, Do, End, closed, old_byte, on_field, opened, plan, plan_from, plan_op, query_plan, read_from, unlocked, where_wanted, write_from}
+use Rattle.handler_script.specs.Locked.{Locked}
+use Rattle.handler_script.specs.Parts.{bursts, read_in, reads_first, takes_lock, write_act, write_in}
+use Rattle.handler_script.specs.Plan.{Plan, Do, closed, old_byte, on_field, plan_from, plan_op, read_from, unlocked, where_wanted, write_from}
 use Rattle.handler_script.proofs.Sounds.{kept}
 
 lock_opened : (n held : Bool) (p : Plan) → Locked (n || held) p → Locked held (where_wanted (n && not held) false act.Lock p)

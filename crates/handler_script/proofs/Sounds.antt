@@ -62,8 +62,9 @@ skip_within fields ops i v k a at =
 
 known_named : (fields : List Field) (f : ℕ) → nat_lt f (length fields) ≡ true → slice_get fields f ≡ None → ⊥
 known_named fields f h e = elim ((slice_get_cases fields f).1) [
-    inl found ↦ none-some found.0 (sym e ∙ found.2)
-  | inr past ↦ (let less : f < length fields = ltb-true f (length fields) h in let more : length fields ≤ f = past.0 in omega arith) ]
+  | inl found ↦ none-some found.0 (sym e ∙ found.2)
+  | inr past ↦ (let less : f < length fields = ltb-true f (length fields) h in let more : length fields ≤ f = past.0 in omega arith)
+]
 
 pub plain_named : (fields : List Field) (ops : List Op) (i : ℕ) (o : Op) → Accepted fields ops → slice_get ops i ≡ Some o → field_named fields o ≡ None → is_access o ≡ false
 plain_named fields ops i o a at n = unnamed fields o (accepted_at fields ops i o a at).0 n where

@@ -102,7 +102,11 @@ fn op_fault<R: EventRules>(
     if !is_sound_skip(op, rest) {
         return Some(ScriptFault::BadSkip(place));
     }
-    if is_balanced(op, held) { None } else { Some(ScriptFault::Unbalanced(place)) }
+    if is_balanced(op, held) {
+        None
+    } else {
+        Some(ScriptFault::Unbalanced(place))
+    }
 }
 
 /// The place of the hold that is open after an operation.

@@ -86,7 +86,11 @@ fn cut(field: &FieldUnit, value: u64) -> u64
     ensures { result ≡ value % 2 ^ field.now.width }
 {
     field.law_fits();
-    if field.width() < 64 { value % (1 << field.width()) } else { value }
+    if field.width() < 64 {
+        value % (1 << field.width())
+    } else {
+        value
+    }
 }
 
 /// The value that an operation writes to its field, where `last` was read last.

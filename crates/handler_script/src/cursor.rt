@@ -25,8 +25,15 @@ impl Cursor {
         ensures left { (fields : List Field) (ops : List Op) → left fields ops result ≡ plan fields ops }
         ensures stands { (fields : List Field) (ops : List Op) → stands fields ops result ≡ true }
     {
-        let place = Place { stage: Stage::Before, last: 0 };
-        Cursor { op: 0, place, held: false }
+        let place = Place {
+            stage: Stage::Before,
+            last: 0,
+        };
+        Cursor {
+            op: 0,
+            place,
+            held: false,
+        }
     }
 
     /// The next act, or `None` where the script has ended. The script is one that is accepted with these fields, and the
@@ -96,7 +103,10 @@ impl Cursor {
         ensures within { result.op ≤ length ops.now }
     {
         let passed = skipped(self.place.last, value, count);
-        Cursor { op: self.op + 1 + passed, ..*self }
+        Cursor {
+            op: self.op + 1 + passed,
+            ..*self
+        }
     }
 
     /// The act of the operation at which the cursor stands.
@@ -144,8 +154,15 @@ impl Cursor {
         requires { self.now.op < 4096 }
         ensures { result ≡ record { op = self.now.op + 1; place = record { stage = Stage.Before; last = last }; held = held } }
     {
-        let place = Place { stage: Stage::Before, last };
-        Cursor { op: self.op + 1, place, held }
+        let place = Place {
+            stage: Stage::Before,
+            last,
+        };
+        Cursor {
+            op: self.op + 1,
+            place,
+            held,
+        }
     }
 }
 
@@ -161,7 +178,9 @@ fn field_of(op: Op, fields: &[FieldUnit]) -> Option<FieldUnit>
     ensures { result ≡ field_named fields.now op }
 {
     match op {
-        Op::Read(field) | Op::Write(field, _) | Op::Add(field, _) => fields.get(usize::from(field)).copied(),
+        Op::Read(field) | Op::Write(field, _) | Op::Add(field, _) => fields
+            .get(usize::from(field))
+            .copied(),
         _ => None,
     }
 }

@@ -15,8 +15,7 @@ pub fn law_acts()
     ensures goes_on { GoesOn }
     ensures steps_on { StepsOn }
     ensures ends { Ends }
-{
-}
+{}
 
 /// In an accepted script, and in a query job, each act that needs the lock stands where it is held, the lock is taken and
 /// given back in turn, and it is free at the end.
@@ -24,12 +23,10 @@ pub fn law_locked()
     ensures script { LocksInTurn }
     ensures query { Locked false query_plan }
     ensures empty { Locked false empty_plan }
-{
-}
+{}
 
 /// Two values are `==` exactly where they are the same.
 pub fn law_equality()
     ensures act { IsExact Act (act_eq.ghosts).eq }
     ensures script_fault { IsExact ScriptFault (script_fault_eq.ghosts).eq }
-{
-}
+{}

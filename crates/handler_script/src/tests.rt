@@ -5,6 +5,7 @@ ghost use Rattle.acpi_regs.specs.declared.event.Event.TheVariants as event;
 ghost use Rattle.handler_script.specs.Accepts.{Accepted};
 ghost use Rattle.handler_script.specs.declared.op.Op.TheVariants as op;
 
+use crate::laws::{law_acts, law_equality, law_locked};
 use crate::{Act, Cursor, EventRules, Op, Script, ScriptFault};
 use acpi_regs::{Cell, Event, Fixed, Request, Side};
 use field_units::{FieldFault, FieldUnit, LockRule, RegionKind, UpdateRule};
@@ -17,13 +18,26 @@ fn at(offset: u16) -> Cell {
     Cell { region: 0, offset }
 }
 
-fn memory(bit: u32, width: u8, lock: LockRule, update: UpdateRule) -> Result<FieldUnit, FieldFault> {
+fn memory(
+    bit: u32,
+    width: u8,
+    lock: LockRule,
+    update: UpdateRule,
+) -> Result<FieldUnit, FieldFault> {
     FieldUnit::new(0, RegionKind::Memory, 16, bit, width, lock, update)
 }
 
 fn controller(bit: u32, width: u8) -> Result<FieldUnit, FieldFault> {
     let kind = RegionKind::Controller;
-    FieldUnit::new(0, kind, 256, bit, width, LockRule::NoLock, UpdateRule::Preserve)
+    FieldUnit::new(
+        0,
+        kind,
+        256,
+        bit,
+        width,
+        LockRule::NoLock,
+        UpdateRule::Preserve,
+    )
 }
 
 /// A script of these operations, or its fault.
@@ -98,11 +112,7 @@ fn bits_of_a_field_are_read_and_written_by_its_rule(rt: HostRuntime) -> Result<(
         (
             UpdateRule::Preserve,
             &[0xC3],
-            &[
-                Act::Read(at(0)),
-                Act::Write(at(0), 0xF3),
-                Act::Read(at(1)),
-            ],
+            &[Act::Read(at(0)), Act::Write(at(0), 0xF3), Act::Read(at(1))],
         ),
         (
             UpdateRule::WriteAsOnes,
@@ -201,9 +211,7 @@ fn an_operation_takes_the_lock_once_for_all_its_bytes(rt: HostRuntime) -> Result
 }
 
 #[test]
-fn the_controller_is_asked_and_bursts_for_more_than_one_byte(
-    rt: HostRuntime,
-) -> Result<(), Fail> {
+fn the_controller_is_asked_and_bursts_for_more_than_one_byte(rt: HostRuntime) -> Result<(), Fail> {
     let fields = [controller(2040, 8)?, controller(0, 16)?];
     let cases: [(&[Op], &[u8], &[Act]); 5] = [
         (
@@ -249,11 +257,7 @@ fn the_controller_is_asked_and_bursts_for_more_than_one_byte(
                 Act::Unlock,
             ],
         ),
-        (
-            &[Op::Read(1)],
-            &[],
-            &[Act::Lock, Act::Ask(Request::Be)],
-        ),
+        (&[Op::Read(1)], &[], &[Act::Lock, Act::Ask(Request::Be)]),
     ];
     for (ops, answers, expected) in cases {
         let acts = acts_of(rt.alloc(), ops, Side::Os, &fields, answers)?;
@@ -287,7 +291,12 @@ fn a_skip_passes_over_operations_by_the_value_read_last(rt: HostRuntime) -> Resu
             &[Act::Write(at(0), 1), Act::Write(at(0), 2)],
         ),
         (
-            &[Op::Skip(1, 2), Op::Write(0, 1), Op::Write(0, 2), Op::Write(0, 3)],
+            &[
+                Op::Skip(1, 2),
+                Op::Write(0, 1),
+                Op::Write(0, 2),
+                Op::Write(0, 3),
+            ],
             &[],
             &[Act::Write(at(0), 3)],
         ),
@@ -365,47 +374,87 @@ fn the_other_operations_are_acts_of_the_same_name(rt: HostRuntime) -> Result<(),
     Ok(())
 }
 
+/// The fault of these operations, where field 0 is the only one.
+fn fault_of(alloc: Global, ops: &[Op], side: Side) -> Result<Option<ScriptFault>, Fail> {
+    let fields = [memory(0, 8, LockRule::NoLock, UpdateRule::Preserve)?];
+    Ok(script_of(alloc, ops, side, &fields)?.err())
+}
+
+#[test]
+fn a_skip_passes_over_operations_that_follow_and_no_hold(rt: HostRuntime) -> Result<(), Fail> {
+    let cases: [(&[Op], Option<u16>); 8] = [
+        (&[Op::Skip(0, 1)], Some(0)),
+        (&[Op::Skip(0, 0), Op::Read(0)], Some(0)),
+        (&[Op::Skip(0, 1), Op::Read(0)], None),
+        (&[Op::Skip(0, 2), Op::Read(0)], Some(0)),
+        (&[Op::Skip(0, 1), Op::Hold, Op::Free], Some(0)),
+        (&[Op::Skip(0, 2), Op::Read(0), Op::Hold, Op::Free], Some(0)),
+        (&[Op::Hold, Op::Skip(0, 2), Op::Read(0), Op::Free], Some(1)),
+        (&[Op::Hold, Op::Skip(0, 1), Op::Read(0), Op::Free], None),
+    ];
+    for (ops, place) in cases {
+        let fault = fault_of(rt.alloc(), ops, Side::Firmware)?;
+        assert_eq!(rt; fault, place.map(ScriptFault::BadSkip));
+    }
+    Ok(())
+}
+
+#[test]
+fn holds_and_frees_come_in_turn(rt: HostRuntime) -> Result<(), Fail> {
+    let cases: [(&[Op], Option<u16>); 7] = [
+        (&[], None),
+        (&[Op::Hold, Op::Hold, Op::Free], Some(1)),
+        (&[Op::Free, Op::Hold], Some(0)),
+        (&[Op::Hold, Op::Free, Op::Free], Some(2)),
+        (&[Op::Hold, Op::Free, Op::Hold, Op::Free], None),
+        (&[Op::Read(0), Op::Hold, Op::Read(0)], Some(1)),
+        (&[Op::Hold, Op::Free, Op::Hold], Some(2)),
+    ];
+    for (ops, place) in cases {
+        let fault = fault_of(rt.alloc(), ops, Side::Os)?;
+        assert_eq!(rt; fault, place.map(ScriptFault::Unbalanced));
+    }
+    Ok(())
+}
+
+#[test]
+fn an_operation_stands_on_its_side(rt: HostRuntime) -> Result<(), Fail> {
+    let gpe = Event::Gpe(2);
+    let cases: [(Side, &[Op], Option<u16>); 11] = [
+        (Side::Os, &[Op::Raise(PWR)], Some(0)),
+        (Side::Os, &[Op::Assert(gpe)], Some(0)),
+        (Side::Os, &[Op::Read(0), Op::Push(1)], Some(1)),
+        (Side::Os, &[Op::Drop(gpe), Op::Notify(1, 0x80)], None),
+        (Side::Os, &[Op::Up(PWR), Op::Down(PWR)], None),
+        (Side::Firmware, &[Op::Read(0), Op::Notify(1, 0x80)], Some(1)),
+        (Side::Firmware, &[Op::Up(PWR)], Some(0)),
+        (Side::Firmware, &[Op::Down(PWR)], Some(0)),
+        (Side::Firmware, &[Op::Drop(gpe), Op::Raise(PWR)], None),
+        (Side::Firmware, &[Op::Assert(gpe), Op::Push(1)], None),
+        // The rule on sides comes before that on fields.
+        (Side::Os, &[Op::Push(1), Op::Read(1)], Some(0)),
+    ];
+    for (side, ops, place) in cases {
+        let fault = fault_of(rt.alloc(), ops, side)?;
+        assert_eq!(rt; fault, place.map(ScriptFault::NotAllowed));
+    }
+    Ok(())
+}
+
 #[test]
 fn the_first_faulty_operation_is_told(rt: HostRuntime) -> Result<(), Fail> {
-    // The side, the operations, where field 0 is the only one, and the fault.
-    let cases: [(Side, &[Op], Option<ScriptFault>); 30] = [
-        (Side::Os, &[], None),
-        (Side::Firmware, &[Op::Skip(0, 1)], Some(ScriptFault::BadSkip(0))),
-        (Side::Firmware, &[Op::Skip(0, 0), Op::Read(0)], Some(ScriptFault::BadSkip(0))),
-        (Side::Firmware, &[Op::Skip(0, 1), Op::Read(0)], None),
-        (Side::Firmware, &[Op::Skip(0, 2), Op::Read(0)], Some(ScriptFault::BadSkip(0))),
-        (Side::Firmware, &[Op::Skip(0, 1), Op::Hold, Op::Free], Some(ScriptFault::BadSkip(0))),
-        (Side::Firmware, &[Op::Hold, Op::Skip(0, 2), Op::Read(0), Op::Free], Some(ScriptFault::BadSkip(1))),
-        (Side::Firmware, &[Op::Hold, Op::Skip(0, 1), Op::Read(0), Op::Free], None),
-        (Side::Os, &[Op::Read(0), Op::Read(1)], Some(ScriptFault::UnknownField(1))),
-        (Side::Os, &[Op::Write(1, 0)], Some(ScriptFault::UnknownField(0))),
-        (Side::Os, &[Op::Add(65535, 0)], Some(ScriptFault::UnknownField(0))),
-        (Side::Os, &[Op::Hold, Op::Hold, Op::Free], Some(ScriptFault::Unbalanced(1))),
-        (Side::Os, &[Op::Free, Op::Hold], Some(ScriptFault::Unbalanced(0))),
-        (Side::Os, &[Op::Hold, Op::Free, Op::Free], Some(ScriptFault::Unbalanced(2))),
-        (Side::Os, &[Op::Hold, Op::Free, Op::Hold, Op::Free], None),
-        (Side::Os, &[Op::Read(0), Op::Hold, Op::Read(0)], Some(ScriptFault::Unbalanced(1))),
+    let cases: [(&[Op], ScriptFault); 7] = [
+        (&[Op::Read(0), Op::Read(1)], ScriptFault::UnknownField(1)),
+        (&[Op::Write(1, 0)], ScriptFault::UnknownField(0)),
+        (&[Op::Add(65535, 0)], ScriptFault::UnknownField(0)),
+        (&[Op::Free, Op::Push(1)], ScriptFault::Unbalanced(0)),
+        (&[Op::Read(1), Op::Push(1)], ScriptFault::UnknownField(0)),
         // An open hold comes after every other fault.
-        (Side::Os, &[Op::Hold, Op::Read(1)], Some(ScriptFault::UnknownField(1))),
-        (Side::Os, &[Op::Hold, Op::Skip(0, 1)], Some(ScriptFault::BadSkip(1))),
-        // The first faulty operation comes before the earlier rule.
-        (Side::Os, &[Op::Free, Op::Push(1)], Some(ScriptFault::Unbalanced(0))),
-        (Side::Os, &[Op::Read(1), Op::Push(1)], Some(ScriptFault::UnknownField(0))),
-        (Side::Os, &[Op::Push(1), Op::Read(1)], Some(ScriptFault::NotAllowed(0))),
-        (Side::Os, &[Op::Raise(PWR)], Some(ScriptFault::NotAllowed(0))),
-        (Side::Os, &[Op::Assert(Event::Gpe(2))], Some(ScriptFault::NotAllowed(0))),
-        (Side::Os, &[Op::Push(1)], Some(ScriptFault::NotAllowed(0))),
-        (Side::Os, &[Op::Drop(Event::Gpe(2))], None),
-        (Side::Firmware, &[Op::Drop(Event::Gpe(2))], None),
-        (Side::Firmware, &[Op::Read(0), Op::Notify(1, 0x80)], Some(ScriptFault::NotAllowed(1))),
-        (Side::Firmware, &[Op::Up(PWR)], Some(ScriptFault::NotAllowed(0))),
-        (Side::Firmware, &[Op::Down(PWR)], Some(ScriptFault::NotAllowed(0))),
-        (Side::Firmware, &[Op::Raise(PWR), Op::Assert(Event::Gpe(2)), Op::Push(1)], None),
+        (&[Op::Hold, Op::Read(1)], ScriptFault::UnknownField(1)),
+        (&[Op::Hold, Op::Skip(0, 1)], ScriptFault::BadSkip(1)),
     ];
-    let fields = [memory(0, 8, LockRule::NoLock, UpdateRule::Preserve)?];
-    for (side, ops, fault) in cases {
-        let told = script_of(rt.alloc(), ops, side, &fields)?.err();
-        assert_eq!(rt; told, fault);
+    for (ops, fault) in cases {
+        assert_eq!(rt; fault_of(rt.alloc(), ops, Side::Os)?, Some(fault));
     }
     Ok(())
 }
@@ -428,9 +477,18 @@ impl EventRules for NoThirdGpe {
 fn an_event_that_may_not_be_named_is_not_allowed(rt: HostRuntime) -> Result<(), Fail> {
     let cases: [(&[Op], Option<ScriptFault>); 4] = [
         (&[Op::Up(Event::Gpe(2)), Op::Down(PWR)], None),
-        (&[Op::Up(Event::Gpe(2)), Op::Up(Event::Gpe(3))], Some(ScriptFault::NotAllowed(1))),
-        (&[Op::Free, Op::Down(Event::Gpe(3))], Some(ScriptFault::Unbalanced(0))),
-        (&[Op::Hold, Op::Down(Event::Gpe(3))], Some(ScriptFault::NotAllowed(1))),
+        (
+            &[Op::Up(Event::Gpe(2)), Op::Up(Event::Gpe(3))],
+            Some(ScriptFault::NotAllowed(1)),
+        ),
+        (
+            &[Op::Free, Op::Down(Event::Gpe(3))],
+            Some(ScriptFault::Unbalanced(0)),
+        ),
+        (
+            &[Op::Hold, Op::Down(Event::Gpe(3))],
+            Some(ScriptFault::NotAllowed(1)),
+        ),
     ];
     for (ops, fault) in cases {
         if ops.len() <= 4096 {
@@ -451,5 +509,17 @@ fn a_script_gives_its_operations_and_a_cursor_is_copied(rt: HostRuntime) -> Resu
         _ => (0, 0),
     });
     assert!(rt; values.eq([(1, 2), (3, 4)]));
+
+    let fields = [];
+    let mut cursor = Cursor::new();
+    let before = cursor;
+    assert_eq!(rt; cursor.next(&script, &fields), Some(Act::Notify(1, 2)));
+    cursor.answer(&script, &fields, None);
+    assert_eq!(rt; cursor.next(&script, &fields), Some(Act::Notify(3, 4)));
+    assert_eq!(rt; before.next(&script, &fields), Some(Act::Notify(1, 2)));
+
+    law_acts();
+    law_locked();
+    law_equality();
     Ok(())
 }

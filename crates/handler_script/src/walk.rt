@@ -19,7 +19,11 @@ fn unlocked(last: u64, field: &FieldUnit, held: bool) -> Place
     ensures same { (o : Op) (next : ℕ → Plan) → rest_of_op o field.now held result.stage result.last next ≡ unlocked field.now held (next last) }
     ensures ready { is_ready field.now held result.stage ≡ true }
 {
-    let stage = if takes_lock(field, held) { Stage::Unlocking } else { Stage::Done };
+    let stage = if takes_lock(field, held) {
+        Stage::Unlocking
+    } else {
+        Stage::Done
+    };
     Place { stage, last }
 }
 
@@ -29,7 +33,10 @@ fn closed(last: u64, field: &FieldUnit, held: bool) -> Place
     ensures ready { is_ready field.now held result.stage ≡ true }
 {
     if bursts(field) {
-        Place { stage: Stage::Closing, last }
+        Place {
+            stage: Stage::Closing,
+            last,
+        }
     } else {
         unlocked(last, field, held)
     }
@@ -58,7 +65,10 @@ pub(crate) fn opened(last: u64, op: Op, field: &FieldUnit, held: bool) -> Place
     ensures going { is_done result.stage ≡ false }
 {
     if bursts(field) {
-        Place { stage: Stage::Opened, last }
+        Place {
+            stage: Stage::Opened,
+            last,
+        }
     } else {
         begun(last, op)
     }
@@ -70,7 +80,10 @@ fn read(value: u64, op: Op, field: &FieldUnit, held: bool) -> Place
     ensures ready { is_ready field.now held result.stage ≡ true }
 {
     match op {
-        Op::Add(..) => Place { stage: Stage::Writing(0), last: value },
+        Op::Add(..) => Place {
+            stage: Stage::Writing(0),
+            last: value,
+        },
         _ => closed(value, field, held),
     }
 }
@@ -89,7 +102,10 @@ pub(crate) fn settled(place: Place, op: Op, field: &FieldUnit, held: bool) -> Pl
         Stage::Reading(k, so_far) if k == count => read(so_far, op, field, held),
         Stage::Writing(k) if k == count => closed(place.last, field, held),
         Stage::Closing if !bursts(field) => unlocked(place.last, field, held),
-        Stage::Unlocking if !takes_lock(field, held) => Place { stage: Stage::Done, last: place.last },
+        Stage::Unlocking if !takes_lock(field, held) => Place {
+            stage: Stage::Done,
+            last: place.last,
+        },
         _ => place,
     }
 }

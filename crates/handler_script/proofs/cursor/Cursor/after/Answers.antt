@@ -55,11 +55,12 @@ returns-in_default c =
     let within : self.op < length ops = slice_get_within ops self.op o c.requires.at in
     record {
       stands = stands_where fields ops _ o field c.requires.at (sym c.field_of.ensures ∙ c.in-Some.is) (omega arith)
-        (entered_ready field self.held c.settled-place.result.stage c.settled-place.ensures.ready c.in_default.not-Done);
+          (entered_ready field self.held c.settled-place.result.stage c.settled-place.ensures.ready c.in_default.not-Done);
       left = field_left fields ops _ o field c.requires.at (sym c.field_of.ensures ∙ c.in-Some.is)
-        ∙ c.settled-place.ensures.same next
-        ∙ c.passed-place.ensures.same next
-        ∙ ap (plan_after c.args.byte) (c.started-place.ensures.same next ∙ sym (field_left fields ops self o field c.requires.at (sym c.field_of.ensures ∙ c.in-Some.is))) }
+          ∙ c.settled-place.ensures.same next
+          ∙ c.passed-place.ensures.same next
+          ∙ ap (plan_after c.args.byte) (c.started-place.ensures.same next ∙ sym (field_left fields ops self o field c.requires.at (sym c.field_of.ensures ∙ c.in-Some.is)));
+    }
 
 pub returns-in-None-clause-stands : goal.returns-in-None-clause-stands
 returns-in-None-clause-stands c =

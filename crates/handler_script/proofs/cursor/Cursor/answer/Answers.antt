@@ -10,5 +10,5 @@ returns-in_default-clause-left c =
     let ops = c.ops-ops.result.now in
     let d = c.past_skips-cursor.result in
     let over : left fields c.args.script.now c.args.self.now ≡ End =
-      ap (λ x. left fields x c.args.self.now) (sym c.ops-ops.ensures) ∙ sym c.past_skips-cursor.ensures.left ∙ left_past fields ops d (sym c.at.ensures ∙ c.in_default.is) in
+    ap (λ x. left fields x c.args.self.now) (sym c.ops-ops.ensures) ∙ sym c.past_skips-cursor.ensures.left ∙ left_past fields ops d (sym c.at.ensures ∙ c.in_default.is) in
     over ∙ ap (plan_after (unwrap_or c.args.byte 0)) (sym over)

@@ -10,5 +10,5 @@ returns-in-None c =
     let ops = c.ops-ops.result.now in
     let d = c.past_skips-cursor.result in
     let over : left fields c.args.script.now c.args.self.now ≡ End =
-      ap (λ x. left fields x c.args.self.now) (sym c.ops-ops.ensures) ∙ sym c.past_skips-cursor.ensures.left ∙ left_past fields ops d (sym c.at.ensures ∙ c.in-None.is) in
+    ap (λ x. left fields x c.args.self.now) (sym c.ops-ops.ensures) ∙ sym c.past_skips-cursor.ensures.left ∙ left_past fields ops d (sym c.at.ensures ∙ c.in-None.is) in
     sym (ap next_act over)

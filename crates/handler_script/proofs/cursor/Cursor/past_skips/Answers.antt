@@ -6,4 +6,5 @@ pub loop-value-init : goal.loop-value-init
 loop-value-init c = record {
   stands = c.requires.stands;
   same = refl;
-  within = stands_within c.args.fields.now c.args.ops.now c.args.self.now c.requires.stands }
+  within = stands_within c.args.fields.now c.args.ops.now c.args.self.now c.requires.stands;
+}

@@ -6,7 +6,8 @@ abbrev pub invariant-loop-value : goal.invariant-loop-value
 invariant-loop-value l = record {
   stands : stands l.fields l.ops l.cursor ≡ true;
   same : left l.fields l.ops l.cursor ≡ left l.fields l.ops l.self;
-  within : l.cursor.op ≤ length l.ops }
+  within : l.cursor.op ≤ length l.ops;
+}
 
 abbrev pub decreases-loop-value : goal.decreases-loop-value
 decreases-loop-value l = length l.ops - l.cursor.op
