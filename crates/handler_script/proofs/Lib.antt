@@ -1,0 +1,6 @@
+pub mod Exact
+pub mod Lefts
+pub mod Locks
+pub mod Plans
+pub mod Sounds
+pub mod Stages

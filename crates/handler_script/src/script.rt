@@ -1,0 +1,66 @@
+ghost use Rattle.std.specs.Prelude.{List};
+ghost use Rattle.handler_script.specs.declared.op.Op.{Op};
+
+use crate::accept::{AnyEvent, first_fault};
+use crate::{EventRules, Op, ScriptFault};
+use acpi_regs::Side;
+use field_units::FieldUnit;
+use std::marker::Model;
+
+/// Operations in order, which contracts see as the list of them.
+#[derive(Debug, Drop)]
+pub struct Script {
+    ops: Vec<Op>,
+}
+
+impl Model for Script {
+    ghost Value = { List Op };
+
+    ghost view = { λ s. s.ops.items };
+}
+
+impl Script {
+    ghost use Rattle.std.specs.Prelude.{◌≡◌, ◌≤◌, IfOk, MatchResult, None, Some, length};
+    ghost use Rattle.handler_script.specs.Accepts.{Accepted, nothing_forbidden, script_fault};
+
+    /// A script of one side, of at most 4,096 operations, whose events nobody asks about.
+    ///
+    /// It answers the fault of the first faulty operation; where several rules are broken there, the first of
+    /// `NotAllowed`, `UnknownField`, `BadSkip` and `Unbalanced`. A hold that is open at the end comes after every other
+    /// fault.
+    pub fn new(ops: Vec<Op>, fields: &[FieldUnit], side: Side) -> Result<Script, ScriptFault>
+        requires { length ops.items ≤ 4096 }
+        ensures exact { MatchResult result
+            (λ script. (script ≡ ops.items) × (script_fault nothing_forbidden side (length fields.now) ops.items ≡ None))
+            (λ fault. script_fault nothing_forbidden side (length fields.now) ops.items ≡ Some fault) }
+        ensures accepted { IfOk result (λ script. Accepted fields.now script) }
+    {
+        Script::with_events(ops, fields, side, &AnyEvent)
+    }
+
+    /// The same, of operations that name the events of a machine. An event that may not be named is `NotAllowed`.
+    pub fn with_events<R: EventRules>(
+        ops: Vec<Op>,
+        fields: &[FieldUnit],
+        side: Side,
+        events: &R,
+    ) -> Result<Script, ScriptFault>
+        requires { length ops.items ≤ 4096 }
+        ensures exact { MatchResult result
+            (λ script. (script ≡ ops.items) × (script_fault (R.forbids events.now) side (length fields.now) ops.items ≡ None))
+            (λ fault. script_fault (R.forbids events.now) side (length fields.now) ops.items ≡ Some fault) }
+        ensures accepted { IfOk result (λ script. Accepted fields.now script) }
+    {
+        match first_fault(events, side, fields.len(), &ops) {
+            Some(fault) => Err(fault),
+            None => Ok(Script { ops }),
+        }
+    }
+
+    /// The operations.
+    pub fn ops(&self) -> &[Op]
+        ensures { result.now ≡ self.now }
+    {
+        &self.ops
+    }
+}
