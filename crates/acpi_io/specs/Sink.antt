@@ -1,5 +1,5 @@
 -- What a write, and a writing of all bytes, do to the bytes that a sink holds, where it tells them.
-use Rattle.std.specs.Prelude.{◌≡◌, ℕ, ◌≤◌, List, ◌++◌, length, take, Option, Result, Ok, Err}
+use Rattle.std.specs.Prelude.{◌≡◌, ℕ, ◌+◌, ◌≤◌, List, ◌++◌, length, take, Option, Result, Ok, Err}
 use Rattle.std.specs.Io.KnownBytes.{Appends, Keeps}
 use Rattle.acpi_io.specs.declared.sink.WriteOutcome.{WriteOutcome}
 use Rattle.acpi_io.specs.declared.sink.WriteOutcome.TheVariants as outcome
@@ -18,3 +18,8 @@ AddsFront old new bytes = (front back : List ℕ) × (bytes ≡ front ++ back) �
 abbrev pub WritesAll : {U : Type 0} → Option (List ℕ) → Option (List ℕ) → List ℕ → Result U WriteFault → Type 0
 WritesAll old new bytes (Ok _) = Appends old new bytes
 WritesAll old new bytes (Err _) = AddsFront old new bytes
+
+-- Each write took a byte, but for the last one where it failed: none was tried again.
+abbrev pub AsksOncePerByte : {U : Type 0} → (old new : Option (List ℕ)) → (before now : ℕ) → List ℕ → Result U WriteFault → Type 0
+AsksOncePerByte old new before now bytes (Ok _) = now ≤ before + length bytes
+AsksOncePerByte old new before now bytes (Err _) = (front back : List ℕ) × (bytes ≡ front ++ back) × Appends old new front × (now ≤ before + (length front + 1))

@@ -1,4 +1,4 @@
-ghost use Rattle.std.specs.Prelude.{◌≡◌, [], ◌<◌, ◌≤◌, Some, length, IfOk};
+ghost use Rattle.std.specs.Prelude.{◌≡◌, ◌+◌, [], ◌<◌, ◌≤◌, Some, length, IfOk};
 ghost use Rattle.acpi_io.specs.Faults.{Rose};
 ghost use Rattle.acpi_io.specs.Sink.{WriteAdds};
 ghost use Rattle.acpi_io.specs.MemorySink.{write_outcome, after_write};
@@ -91,12 +91,15 @@ impl Sink for MemorySink {
 
     ghost faults = { λ s. s.faults };
 
+    ghost writes = { λ s. s.calls };
+
     fn write(&mut self, piece: &[u8]) -> WriteOutcome
         requires { 0 < length piece.now }
         ensures bytes { WriteAdds result (Some self.old.held) (Some self.new.held) piece.now }
         ensures later { self.old.faults ≤ self.new.faults }
         ensures cause { result ≡ WriteOutcome.Failed → Rose self.old.faults self.new.faults }
         ensures told { ¬ result ≡ WriteOutcome.Failed → self.new.faults ≡ self.old.faults }
+        ensures asked { self.new.calls ≤ self.old.calls + 1 }
 
         // Exactly what is answered, and what is held.
         ensures outcome { result ≡ write_outcome self.old (length piece.now) }

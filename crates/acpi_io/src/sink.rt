@@ -1,6 +1,6 @@
-ghost use Rattle.std.specs.Prelude.{◌≡◌, ℕ, ◌<◌, ◌≤◌, [], List, Option, length, IsOk, OnErr, OnOk};
+ghost use Rattle.std.specs.Prelude.{◌+◌, ◌≡◌, ℕ, ◌<◌, ◌≤◌, [], List, Option, length, IsOk, OnErr, OnOk};
 ghost use Rattle.acpi_io.specs.Faults.{Rose};
-ghost use Rattle.acpi_io.specs.Sink.{WriteAdds, WritesAll};
+ghost use Rattle.acpi_io.specs.Sink.{AsksOncePerByte, WriteAdds, WritesAll};
 
 use std::error::Error;
 use std::fmt;
@@ -23,13 +23,17 @@ pub trait Sink {
     /// `Failed` leaves it as it was, so no failure is passed over.
     ghost faults: { Self → ℕ };
 
+    /// How often the sink was written to. One that does not count says 0.
+    ghost writes: { Self → ℕ };
+
     /// Takes some bytes from the front of a piece that is not empty.
     fn write(&mut self, piece: &[u8]) -> WriteOutcome
         requires { 0 < length piece.now }
         ensures bytes { WriteAdds result (held self.old) (held self.new) piece.now }
         ensures later { faults self.old ≤ faults self.new }
         ensures cause { result ≡ WriteOutcome.Failed → Rose (faults self.old) (faults self.new) }
-        ensures told { ¬ result ≡ WriteOutcome.Failed → faults self.new ≡ faults self.old };
+        ensures told { ¬ result ≡ WriteOutcome.Failed → faults self.new ≡ faults self.old }
+        ensures asked { writes self.new ≤ writes self.old + 1 };
 }
 
 /// A write failed.
@@ -54,6 +58,9 @@ pub fn write_all<K: Sink>(sink: &mut K, bytes: &[u8]) -> Result<(), WriteFault>
 
     // No fault is passed over.
     ensures told { OnOk result (K.faults sink.new ≡ K.faults sink.old) }
+
+    // Each write but one that failed took a byte, and none was tried again.
+    ensures asked { AsksOncePerByte (K.held sink.old) (K.held sink.new) (K.writes sink.old) (K.writes sink.new) bytes.now result }
     ensures empty { bytes.now ≡ [] → IsOk result × (sink.new ≡ sink.old) }
 {
     let mut rest = bytes;

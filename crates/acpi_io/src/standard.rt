@@ -83,6 +83,8 @@ impl<W: Write> Sink for StdSink<W> {
 
     ghost faults = { write_faults };
 
+    ghost writes = { λ _. 0 };
+
     /// Writes once. Each error of the writer is a fault, and so is a write that takes nothing.
     fn write(&mut self, piece: &[u8]) -> WriteOutcome
         requires { 0 < length piece.now }

@@ -16,9 +16,9 @@ first_given (q ∷ later) are =
 
 taken : (h : Half) (byte : ℕ) (cells codes : List ℕ) → AreCodes codes → given_on h (Some byte) (put_out (Some (effect_of h cells codes byte))) ++ codes_after h byte codes ≡ codes
 taken half.Nothing byte cells codes are = elim (cases_eq byte 132) [
-    inl e ↦ subst (λ b. given_on half.Nothing (Some b) (put_out (Some (effect_of half.Nothing cells codes b))) ++ codes_after half.Nothing b codes ≡ codes) (sym e) (first_given codes are)
+  | inl e ↦ subst (λ b. given_on half.Nothing (Some b) (put_out (Some (effect_of half.Nothing cells codes b))) ++ codes_after half.Nothing b codes ≡ codes) (sym e) (first_given codes are)
   | inr d ↦ rw (ne_eqb byte 132 d) refl
-  ]
+]
 taken half.Read byte cells codes are = refl
 taken half.Write byte cells codes are = refl
 taken (half.WriteAt a) byte cells codes are = refl

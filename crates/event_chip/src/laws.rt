@@ -30,5 +30,4 @@ pub fn law_counts()
 pub fn law_enabled()
     ensures holds { Holds }
     ensures needs { NeedsReference }
-{
-}
+{}

@@ -1,4 +1,4 @@
-use Rattle.std.proofs.Common.{◌≡◌, ℕ, ◌<◌, ◌≤◌, [], List, length, take, ◌++◌, sym, ◌∙◌, ap, append_assoc, arith, length-append}
+use Rattle.std.proofs.Common.{◌≡◌, ℕ, ◌<◌, ◌≤◌, [], List, length, take, ◌++◌, sym, ◌∙◌, ap, append_assoc, arith, length-append, length-take-le}
 use Rattle.std.proofs.lemmas.List.{take-append-drop}
 use Rattle.acpi_io.proofs.KnownBytes.{Appends-append}
 use Rattle.acpi_io.proofs.sink.write_all.Goals as goal
@@ -18,7 +18,7 @@ loop-rest-preserved g c =
     let some : 1 ≤ c.in-Took.count = c.in-Took.ensures.bytes.0 in
     let within : c.in-Took.count ≤ length c.loop-rest.rest.now = c.in-Took.ensures.bytes.1 in
     record {
-      added = (front ++ taken, c.loop-rest.invariant.added.1 ∙ ap (λ (l : List ℕ). front ++ l) split ∙ sym (append_assoc front taken c.split_at.result.1.now), Appends-append _ (g.K.Sink.held c.loop-rest.sink) _ front taken c.loop-rest.invariant.added.2 c.in-Took.ensures.bytes.2);
+      added = (front ++ taken, c.loop-rest.invariant.added.1 ∙ ap (λ (l : List ℕ). front ++ l) split ∙ sym (append_assoc front taken c.split_at.result.1.now), Appends-append _ (g.K.Sink.held c.loop-rest.sink) _ front taken c.loop-rest.invariant.added.2 c.in-Took.ensures.bytes.2, let w = c.loop-rest.invariant.added.3 in let a = c.in-Took.ensures.asked in omega (arith, length-append front taken, length-take-le c.in-Took.count c.loop-rest.rest.now within));
       kept = c.in-Took.ensures.told (λ same. cc) ∙ c.loop-rest.invariant.kept;
       untouched = λ none. absurd (not_empty _ front _ c.loop-rest.invariant.added.1 (omega arith) none);
     }
