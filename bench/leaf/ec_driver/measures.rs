@@ -29,16 +29,14 @@ pub fn write_a_cell(alloc: Global, turns: u64) -> u64 {
         for turn in 0..turns {
             if chip.is_quiet() {
                 laws::law_stands();
-                let mut transaction = Transaction::new(Request::Wr((turn % 256) as u8, 7));
+                let mut transaction = Transaction::new(Request::Wr((turn % 256) as u8, (turn % 251) as u8));
                 transaction.advance(&mut chip);
                 chip.controller_step();
                 transaction.advance(&mut chip);
                 chip.controller_step();
                 transaction.advance(&mut chip);
                 chip.controller_step();
-                if let Some(None) = transaction.finished(&chip) {
-                    sum = sum.wrapping_mul(3).wrapping_add(turn);
-                }
+                sum = sum.wrapping_mul(3).wrapping_add(u64::from(chip.cell((turn % 256) as u8)));
             }
         }
     }
