@@ -9,7 +9,7 @@ use Rattle.handler_script.specs.declared.fault.ScriptFault.TheVariants as fault
 use Rattle.handler_script.specs.declared.op.Op.{Op}
 use Rattle.handler_script.specs.declared.op.Op.TheVariants as op
 
--- the op names a field, if it names one
+-- the field that the op names exists
 abbrev pub is_known : ℕ → Op → Bool
 is_known count (op.Read f) = nat_lt f count
 is_known count (op.Write f v) = nat_lt f count

@@ -1,4 +1,4 @@
--- Which acts are answered with a byte.
+-- Which acts are answered with a byte that goes back to the script. A query's code does not: it makes a job.
 use Rattle.std.specs.Prelude.{Bool, true, false}
 use Rattle.acpi_regs.specs.declared.entry.Request.{Request}
 use Rattle.acpi_regs.specs.declared.entry.Request.TheVariants as request

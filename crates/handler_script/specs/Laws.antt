@@ -1,5 +1,5 @@
 -- What the plan of a script comes to, in sentences.
-use Rattle.std.specs.Prelude.{◌≡◌, ℕ, false, List, [], ◌∷◌, ◌++◌, Some, None, if◌then◌else◌}
+use Rattle.std.specs.Prelude.{◌≡◌, ℕ, true, false, List, [], ◌∷◌, ◌++◌, Some, None, if◌then◌else◌}
 use Rattle.field_units.specs.Field.{Field}
 use Rattle.handler_script.specs.declared.act.Act.{Act}
 use Rattle.handler_script.specs.declared.op.Op.{Op}
@@ -8,7 +8,7 @@ use Rattle.handler_script.specs.Acts.{brings}
 use Rattle.handler_script.specs.Locked.{Locked}
 use Rattle.handler_script.specs.Plan.{Plan, acts_of, next_act, plan, plan_after}
 
--- the list of acts for more answers begins with that for fewer, but that the first act without an answer may go on
+-- the list of acts for more answers begins with that for fewer
 abbrev pub GoesOn : Type 0
 GoesOn = (p : Plan) (answers more : List ℕ) → (rest : List Act) × (acts_of p (answers ++ more) ≡ acts_of p answers ++ rest)
 
@@ -17,11 +17,15 @@ abbrev pub StepsOn : Type 0
 StepsOn = (p : Plan) (a : Act) (byte : ℕ) (answers : List ℕ) → next_act p ≡ Some a
     → acts_of p (if brings a then byte ∷ answers else answers) ≡ a ∷ acts_of (plan_after (if brings a then byte else 0) p) answers
 
+-- an act that is answered with a byte, and has no answer yet, is the last of the list
+abbrev pub Waits : Type 0
+Waits = (p : Plan) (a : Act) → next_act p ≡ Some a → brings a ≡ true → acts_of p [] ≡ a ∷ []
+
 -- where no act is next there is none at all
 abbrev pub Ends : Type 0
 Ends = (p : Plan) (answers : List ℕ) → next_act p ≡ None → acts_of p answers ≡ []
 
--- in an accepted script, and in a query job, each act that needs the lock stands where it is held, the lock is taken and given
--- back in turn, and it is free at the end
+-- in an accepted script each act that needs the lock stands where it is held, the lock is taken and given back in turn, and it
+-- is free at the end
 abbrev pub LocksInTurn : Type 0
 LocksInTurn = (fields : List Field) (ops : List Op) → Accepted fields ops → Locked false (plan fields ops)

@@ -1,13 +1,13 @@
 -- What is left of a script where a cursor stands.
-use Rattle.std.specs.Prelude.{ℕ, ◌+◌, ◌-◌, ◌%◌, ◌^◌, Bool, true, false, ◌||◌, ◌&&◌, nat_lt, nat_le, List, [], ◌∷◌, length, drop, Option, Some, None, slice_get}
+use Rattle.std.specs.Prelude.{ℕ, ◌+◌, ◌-◌, ◌%◌, ◌^◌, Bool, true, false, ◌&&◌, nat_lt, nat_le, List, [], ◌∷◌, length, drop, Option, Some, None, slice_get}
 use Rattle.field_units.specs.Bits.{byte_count, replaced}
-use Rattle.field_units.specs.Field.{Field, needs_lock}
+use Rattle.field_units.specs.Field.{Field}
 use Rattle.handler_script.specs.declared.cursor.Cursor.{Cursor}
 use Rattle.handler_script.specs.declared.op.Op.{Op}
 use Rattle.handler_script.specs.declared.op.Op.TheVariants as op
 use Rattle.handler_script.specs.declared.stage.Stage.{Stage}
 use Rattle.handler_script.specs.declared.stage.Stage.TheVariants as stage
-use Rattle.handler_script.specs.Parts.{bursts, takes_lock, write_act}
+use Rattle.handler_script.specs.Parts.{access_needs, bursts, takes_lock, write_act}
 use Rattle.handler_script.specs.Plan.{Plan, Do, End, closed, on_field, opened, plan_from, plan_op, read_from, unlocked, write_from}
 
 -- the value that an op writes to its field, where `last` was read last
@@ -18,18 +18,18 @@ written _ field last = 0
 
 -- once the bytes are read
 abbrev pub read_done : Op → Field → Bool → (ℕ → Plan) → ℕ → Plan
-read_done (op.Add f v) field held next value = write_from field (needs_lock field || held) 0 (byte_count field) ((value + v) % 2 ^ field.width) (closed field held (next value))
+read_done (op.Add f v) field held next value = write_from field (access_needs field held) 0 (byte_count field) ((value + v) % 2 ^ field.width) (closed field held (next value))
 read_done _ field held next value = closed field held (next value)
 
 -- what is left of an op on a field, by the stage within it
 abbrev pub rest_of_op : Op → Field → Bool → Stage → ℕ → (ℕ → Plan) → Plan
 rest_of_op o field held stage.Before last next = on_field (Some field) o held last next
 rest_of_op o field held stage.Opened last next = opened o field held last next
-rest_of_op o field held (stage.Reading k so_far) last next = read_from field (needs_lock field || held) k (byte_count field - k) so_far (read_done o field held next)
-rest_of_op o field held (stage.Writing k) last next = write_from field (needs_lock field || held) k (byte_count field - k) (written o field last) (closed field held (next last))
+rest_of_op o field held (stage.Reading k so_far) last next = read_from field (access_needs field held) k (byte_count field - k) so_far (read_done o field held next)
+rest_of_op o field held (stage.Writing k) last next = write_from field (access_needs field held) k (byte_count field - k) (written o field last) (closed field held (next last))
 rest_of_op o field held (stage.Replacing k old) last next =
-    Do (needs_lock field || held) (write_act field k (replaced field k old (written o field last)))
-    (λ _. write_from field (needs_lock field || held) (k + 1) (byte_count field - (k + 1)) (written o field last) (closed field held (next last)))
+    Do (access_needs field held) (write_act field k (replaced field k old (written o field last)))
+    (λ _. write_from field (access_needs field held) (k + 1) (byte_count field - (k + 1)) (written o field last) (closed field held (next last)))
 rest_of_op o field held stage.Closing last next = closed field held (next last)
 rest_of_op o field held stage.Unlocking last next = unlocked field held (next last)
 rest_of_op o field held stage.Done last next = next last
@@ -63,7 +63,7 @@ abbrev pub is_done : Stage → Bool
 is_done stage.Done = true
 is_done _ = false
 
--- an op on a field has one of the three
+-- the op reads or writes a field
 abbrev pub is_access : Op → Bool
 is_access (op.Read f) = true
 is_access (op.Write f v) = true
@@ -98,7 +98,7 @@ abbrev pub stands_in : List Field → Option Op → Bool → Stage → Bool
 stands_in fields (Some o) held s = stands_at (field_named fields o) held s
 stands_in fields None held s = stands_at None held s
 
--- the cursor has passed acts of this script with these fields alone
+-- an act can stand where the cursor is: at an op that is not done, or at the end
 unfoldable pub stands : List Field → List Op → Cursor → Bool
 stands fields ops c = nat_le c.op (length ops) && stands_in fields (slice_get ops c.op) c.held c.place.stage
 

@@ -1,5 +1,5 @@
 -- The acts on the bytes of a field.
-use Rattle.std.specs.Prelude.{ℕ, ◌+◌, Bool, true, false, ◌&&◌, not, nat_lt}
+use Rattle.std.specs.Prelude.{ℕ, ◌+◌, Bool, true, false, ◌&&◌, ◌||◌, not, nat_lt}
 use Rattle.acpi_regs.specs.declared.entry.Cell.{Cell}
 use Rattle.acpi_regs.specs.declared.entry.Request.TheVariants as request
 use Rattle.field_units.specs.declared.rules.RegionKind.{RegionKind}
@@ -15,6 +15,10 @@ abbrev pub is_preserve : UpdateRule → Bool
 is_preserve update.Preserve = true
 is_preserve update.WriteAsOnes = false
 is_preserve update.WriteAsZeros = false
+
+-- an access needs the lock where its field does, or where a hold is open
+abbrev pub access_needs : Field → Bool → Bool
+access_needs field held = needs_lock field || held
 
 -- an op on the field takes the lock for itself
 abbrev pub takes_lock : Field → Bool → Bool

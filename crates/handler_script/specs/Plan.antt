@@ -1,15 +1,15 @@
 -- What a script means: the acts that it still has to make, each of which may go on by the byte that it is answered
 -- (ACPI 6.5, section 5.5.2.4, on fields and their regions).
-use Rattle.std.specs.Prelude.{ℕ, zero, suc, ◌+◌, ◌%◌, ◌^◌, ◌==◌, Bool, true, false, ◌||◌, List, [], ◌∷◌, Option, Some, None, slice_get, if◌then◌else◌}
+use Rattle.std.specs.Prelude.{ℕ, zero, suc, ◌+◌, ◌%◌, ◌^◌, ◌==◌, Bool, true, false, List, [], ◌∷◌, Option, Some, None, slice_get, if◌then◌else◌}
 use Rattle.acpi_regs.specs.declared.entry.Request.TheVariants as request
 use Rattle.field_units.specs.Bits.{byte_count, joined, replaced}
-use Rattle.field_units.specs.Field.{Field, needs_lock}
+use Rattle.field_units.specs.Field.{Field}
 use Rattle.handler_script.specs.declared.act.Act.{Act}
 use Rattle.handler_script.specs.declared.act.Act.TheVariants as act
 use Rattle.handler_script.specs.declared.op.Op.{Op}
 use Rattle.handler_script.specs.declared.op.Op.TheVariants as op
 use Rattle.handler_script.specs.Acts.{brings}
-use Rattle.handler_script.specs.Parts.{bursts, read_act, reads_first, takes_lock, write_act}
+use Rattle.handler_script.specs.Parts.{access_needs, bursts, read_act, reads_first, takes_lock, write_act}
 
 -- Either nothing is left, or an act is next: whether it needs the Global Lock, the act, and what is left once it
 -- is answered. An act that brings no byte is answered 0.
@@ -63,12 +63,12 @@ closed field held next = where_wanted (bursts field) true (act.Ask request.Bd) (
 -- the bytes of an op on a field; it goes on with the value that the field's latest read gave
 abbrev pub bytes_of : Op → Field → Bool → ℕ → (ℕ → Plan) → Plan
 bytes_of (op.Read f) field held last next =
-    read_from field (needs_lock field || held) 0 (byte_count field) 0 (λ value. closed field held (next value))
+    read_from field (access_needs field held) 0 (byte_count field) 0 (λ value. closed field held (next value))
 bytes_of (op.Write f v) field held last next =
-    write_from field (needs_lock field || held) 0 (byte_count field) (v % 2 ^ field.width) (closed field held (next last))
+    write_from field (access_needs field held) 0 (byte_count field) (v % 2 ^ field.width) (closed field held (next last))
 bytes_of (op.Add f v) field held last next =
-    read_from field (needs_lock field || held) 0 (byte_count field) 0
-    (λ value. write_from field (needs_lock field || held) 0 (byte_count field) ((value + v) % 2 ^ field.width) (closed field held (next value)))
+    read_from field (access_needs field held) 0 (byte_count field) 0
+    (λ value. write_from field (access_needs field held) 0 (byte_count field) ((value + v) % 2 ^ field.width) (closed field held (next value)))
 bytes_of _ field held last next = next last
 
 -- an op on a field, in burst mode and under the lock where they are wanted

@@ -7,12 +7,13 @@ ghost use Rattle.handler_script.specs.declared.op.Op.{Op};
 use crate::{Op, ScriptFault};
 use acpi_regs::Side;
 
-/// Which events the operations of a script may name, by the machine's events. A script alone does not know them.
+/// Which operations a machine forbids: those that name an event which they may not name, and a push where there is no
+/// controller. A script alone does not know the machine.
 pub trait EventRules {
-    /// The operation is forbidden for the event that it names.
+    /// The machine forbids the operation.
     ghost forbids: { Self → Op → Bool };
 
-    /// Whether the operation is forbidden for the event that it names.
+    /// Whether the machine forbids the operation.
     fn forbids(&self, op: Op) -> bool
         ensures { result ≡ forbids self.now op };
 }

@@ -6,7 +6,7 @@ use acpi_regs::{Cell, Event, Request};
 /// What a script does next to its machine.
 #[derive(Clone, Copy, Debug, PartialEq, Eq)]
 pub enum Act {
-    /// Take the Global Lock.
+    /// Take the Global Lock (ACPI 6.5, section 5.2.10.1).
     Lock,
     /// Give it back.
     Unlock,
@@ -33,8 +33,8 @@ pub enum Act {
 }
 
 impl Act {
-    /// Whether the act is answered with a byte: a read is, and of the controller's requests Rd and Be (ACPI 6.5, sections
-    /// 12.3.1 and 12.3.3).
+    /// Whether the act is answered with a byte that goes back to the script: a read is, and of the controller's requests Rd
+    /// and Be (ACPI 6.5, sections 12.3.1 and 12.3.3). A query's code does not go back to it: it makes a job.
     pub fn brings(&self) -> bool
         ensures { result ≡ brings self.now }
     {

@@ -1,7 +1,7 @@
 //! What the plan of a script comes to: facts for the proofs of the crates above, which cost nothing to call.
 ghost use Rattle.std.specs.Prelude.{false};
 ghost use Rattle.acpi_regs.specs.Comparisons.{IsExact};
-ghost use Rattle.handler_script.specs.Laws.{Ends, GoesOn, LocksInTurn, StepsOn};
+ghost use Rattle.handler_script.specs.Laws.{Ends, GoesOn, LocksInTurn, StepsOn, Waits};
 ghost use Rattle.handler_script.specs.Locked.{Locked};
 ghost use Rattle.handler_script.specs.Plan.{empty_plan, query_plan};
 ghost use Rattle.handler_script.specs.contracts.act.ActPartialEq.TheImpl as act_eq;
@@ -10,10 +10,11 @@ ghost use Rattle.handler_script.specs.contracts.fault.ScriptFaultPartialEq.TheIm
 use crate::{Act, ScriptFault};
 
 /// The acts for more answers begin with those for fewer. Once the next act is answered, the acts are that act and then those
-/// of what is left; where no act is next there is none.
+/// of what is left. An act that has no answer yet is the last; where no act is next there is none.
 pub fn law_acts()
     ensures goes_on { GoesOn }
     ensures steps_on { StepsOn }
+    ensures waits { Waits }
     ensures ends { Ends }
 {}
 

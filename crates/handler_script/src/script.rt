@@ -23,7 +23,8 @@ impl Script {
     ghost use Rattle.std.specs.Prelude.{◌≡◌, ◌≤◌, IfOk, MatchResult, None, Some, length};
     ghost use Rattle.handler_script.specs.Accepts.{Accepted, nothing_forbidden, script_fault};
 
-    /// A script of one side, of at most 4,096 operations, whose events nobody asks about.
+    /// A script of one side, of at most 4,096 operations. Which events they name is not tested: a script alone does not know
+    /// the events. See [`Script::with_events`].
     ///
     /// It answers the fault of the first faulty operation; where several rules are broken there, the first of
     /// `NotAllowed`, `UnknownField`, `BadSkip` and `Unbalanced`. A hold that is open at the end comes after every other
@@ -38,7 +39,7 @@ impl Script {
         Script::with_events(ops, fields, side, &AnyEvent)
     }
 
-    /// The same, of operations that name the events of a machine. An event that may not be named is `NotAllowed`.
+    /// As [`Script::new`], and an operation that `events` forbids is `NotAllowed`.
     pub fn with_events<R: EventRules>(
         ops: Vec<Op>,
         fields: &[FieldUnit],
