@@ -95,6 +95,11 @@ impl EcChip {
     }
 
     #[inline]
+    pub fn cell(&self, address: u8) -> u8 {
+        self.cells[usize::from(address)]
+    }
+
+    #[inline]
     pub fn output(&self) -> u8 {
         self.output.unwrap_or(0)
     }
