@@ -19,7 +19,7 @@ abbrev pub WritesAll : {U : Type 0} → Option (List ℕ) → Option (List ℕ) 
 WritesAll old new bytes (Ok _) = Appends old new bytes
 WritesAll old new bytes (Err _) = AddsFront old new bytes
 
--- Each write took a byte, but for the last one where it failed: none was tried again.
+-- There were no more writes than bytes that were added, and one more at most where it failed.
 abbrev pub AsksOncePerByte : {U : Type 0} → (old new : Option (List ℕ)) → (before now : ℕ) → List ℕ → Result U WriteFault → Type 0
 AsksOncePerByte old new before now bytes (Ok _) = now ≤ before + length bytes
 AsksOncePerByte old new before now bytes (Err _) = (front back : List ℕ) × (bytes ≡ front ++ back) × Appends old new front × (now ≤ before + (length front + 1))

@@ -59,7 +59,7 @@ pub fn write_all<K: Sink>(sink: &mut K, bytes: &[u8]) -> Result<(), WriteFault>
     // No fault is passed over.
     ensures told { OnOk result (K.faults sink.new ≡ K.faults sink.old) }
 
-    // Each write but one that failed took a byte, and none was tried again.
+    // At most so many writes as bytes were added, and one more where it failed.
     ensures asked { AsksOncePerByte (K.held sink.old) (K.held sink.new) (K.writes sink.old) (K.writes sink.new) bytes.now result }
     ensures empty { bytes.now ≡ [] → IsOk result × (sink.new ≡ sink.old) }
 {
