@@ -1,5 +1,5 @@
 ghost use Rattle.std.specs.Prelude.{◌≡◌, ◌+◌, [], ◌<◌, ◌≤◌, Some, length, IfOk};
-ghost use Rattle.acpi_io.specs.Faults.{Rose};
+ghost use Rattle.acpi_io.specs.Faults.{RoseByOne};
 ghost use Rattle.acpi_io.specs.Sink.{WriteAdds};
 ghost use Rattle.acpi_io.specs.MemorySink.{write_outcome, after_write};
 
@@ -97,7 +97,7 @@ impl Sink for MemorySink {
         requires { 0 < length piece.now }
         ensures bytes { WriteAdds result (Some self.old.held) (Some self.new.held) piece.now }
         ensures later { self.old.faults ≤ self.new.faults }
-        ensures cause { result ≡ WriteOutcome.Failed → Rose self.old.faults self.new.faults }
+        ensures cause { result ≡ WriteOutcome.Failed → RoseByOne self.old.faults self.new.faults }
         ensures told { ¬ result ≡ WriteOutcome.Failed → self.new.faults ≡ self.old.faults }
         ensures asked { self.new.calls ≤ self.old.calls + 1 }
 

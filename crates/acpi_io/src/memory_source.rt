@@ -1,5 +1,5 @@
 ghost use Rattle.std.specs.Prelude.{◌≡◌, ◌+◌, ◌<◌, ◌≤◌, Some, length};
-ghost use Rattle.acpi_io.specs.Faults.{Rose};
+ghost use Rattle.acpi_io.specs.Faults.{RoseByOne};
 ghost use Rattle.acpi_io.specs.Source.{ReadTakes};
 ghost use Rattle.acpi_io.specs.MemorySource.{read_outcome, after_read};
 
@@ -73,7 +73,7 @@ impl Source for MemorySource {
         requires { 0 < length into.old }
         ensures bytes { ReadTakes result (Some self.old.left) (Some self.new.left) into.new }
         ensures later { self.old.faults ≤ self.new.faults }
-        ensures cause { result ≡ ReadOutcome.Failed → Rose self.old.faults self.new.faults }
+        ensures cause { result ≡ ReadOutcome.Failed → RoseByOne self.old.faults self.new.faults }
         ensures told { ¬ result ≡ ReadOutcome.Failed → self.new.faults ≡ self.old.faults }
         ensures asked { self.new.calls ≤ self.old.calls + 1 }
 

@@ -1,5 +1,5 @@
 ghost use Rattle.std.specs.Prelude.{◌+◌, ◌≡◌, ℕ, ◌<◌, ◌≤◌, [], List, Option, length, IsOk, OnErr, OnOk};
-ghost use Rattle.acpi_io.specs.Faults.{Rose};
+ghost use Rattle.acpi_io.specs.Faults.{RoseByOne};
 ghost use Rattle.acpi_io.specs.Sink.{AsksOncePerByte, WriteAdds, WritesAll};
 
 use std::error::Error;
@@ -19,8 +19,8 @@ pub trait Sink {
     /// The bytes that were taken so far, where the sink tells them.
     ghost held: { Self → Option (List ℕ) };
 
-    /// How often the sink has failed. It never falls, and it may stand still at 2^64 - 1. A call that does not answer
-    /// `Failed` leaves it as it was, so no failure is passed over.
+    /// How often the sink has failed. A call that answers `Failed` raises it by one, but not past 2^64 - 1, and every other
+    /// call leaves it as it was. So no failure is passed over.
     ghost faults: { Self → ℕ };
 
     /// How often the sink was written to. One that does not count says 0.
@@ -31,7 +31,7 @@ pub trait Sink {
         requires { 0 < length piece.now }
         ensures bytes { WriteAdds result (held self.old) (held self.new) piece.now }
         ensures later { faults self.old ≤ faults self.new }
-        ensures cause { result ≡ WriteOutcome.Failed → Rose (faults self.old) (faults self.new) }
+        ensures cause { result ≡ WriteOutcome.Failed → RoseByOne (faults self.old) (faults self.new) }
         ensures told { ¬ result ≡ WriteOutcome.Failed → faults self.new ≡ faults self.old }
         ensures asked { writes self.new ≤ writes self.old + 1 };
 }
@@ -50,13 +50,13 @@ impl Error for WriteFault {}
 
 /// Writes all bytes to a sink, in order. With no bytes it makes no call.
 ///
-/// It answers `WriteFault` where a write failed. The sink has then taken the bytes up to some place.
+/// It answers `WriteFault` where a write failed. That write was the last, and the sink has taken the bytes up to some place.
 pub fn write_all<K: Sink>(sink: &mut K, bytes: &[u8]) -> Result<(), WriteFault>
     ensures ends { WritesAll (K.held sink.old) (K.held sink.new) bytes.now result }
     ensures later { K.faults sink.old ≤ K.faults sink.new }
-    ensures cause { OnErr result (Rose (K.faults sink.old) (K.faults sink.new)) }
+    ensures cause { OnErr result (RoseByOne (K.faults sink.old) (K.faults sink.new)) }
 
-    // No fault is passed over.
+    // No fault is passed over. With `cause`: after a failed write none is made.
     ensures told { OnOk result (K.faults sink.new ≡ K.faults sink.old) }
 
     // At most so many writes as bytes were added, and one more where it failed.

@@ -1,6 +1,6 @@
 ghost use Rattle.std.specs.Prelude.{◌≡◌, ℕ, ◌+◌, ◌<◌, ◌≤◌, List, Option, length, IfOk, IsErrOf};
 ghost use Rattle.acpi_io.specs.declared.source.ReadAllFault.TheVariants.{Memory};
-ghost use Rattle.acpi_io.specs.Faults.{Rose};
+ghost use Rattle.acpi_io.specs.Faults.{RoseByOne};
 ghost use Rattle.acpi_io.specs.Source.{AsksOncePerByte, ReadTakes, ReadsAll};
 
 use std::alloc::{AllocError, Global};
@@ -26,8 +26,8 @@ pub trait Source {
     /// The bytes that are still to come, where the source tells them.
     ghost left: { Self → Option (List ℕ) };
 
-    /// How often the source has failed. It never falls, and it may stand still at 2^64 - 1. A call that does not answer
-    /// `Failed` leaves it as it was, so no failure is passed over.
+    /// How often the source has failed. A call that answers `Failed` raises it by one, but not past 2^64 - 1, and every other
+    /// call leaves it as it was. So no failure is passed over.
     ghost faults: { Self → ℕ };
 
     /// How often the source was read. One that does not count says 0.
@@ -38,7 +38,7 @@ pub trait Source {
         requires { 0 < length into.old }
         ensures bytes { ReadTakes result (left self.old) (left self.new) into.new }
         ensures later { faults self.old ≤ faults self.new }
-        ensures cause { result ≡ ReadOutcome.Failed → Rose (faults self.old) (faults self.new) }
+        ensures cause { result ≡ ReadOutcome.Failed → RoseByOne (faults self.old) (faults self.new) }
         ensures told { ¬ result ≡ ReadOutcome.Failed → faults self.new ≡ faults self.old }
         ensures asked { reads self.new ≤ reads self.old + 1 };
 }
@@ -76,7 +76,7 @@ impl From<AllocError> for ReadAllFault {
 
 /// Reads a source to its end and gives all its bytes, which may be up to `limit`. `limit` is at most 67,108,864.
 ///
-/// It answers `ReadFault` where a read failed, `TooLarge` where there are more bytes than `limit`, and `Memory`
+/// It answers `ReadFault` where a read failed, which was then the last, `TooLarge` where there are more bytes than `limit`, and `Memory`
 /// where memory ran out, which is told of no read that failed and of no bytes past the limit. After any of them the
 /// bytes that were taken are lost.
 pub fn read_all<S: Source>(
@@ -88,9 +88,9 @@ pub fn read_all<S: Source>(
     ensures ends { ReadsAll limit (S.left source.old) (S.left source.new) result }
     ensures later { S.faults source.old ≤ S.faults source.new }
     ensures cause { IsErrOf result ReadAllFault.ReadFault →
-        Rose (S.faults source.old) (S.faults source.new) }
+        RoseByOne (S.faults source.old) (S.faults source.new) }
 
-    // No fault is passed over, or told as something else.
+    // No fault is passed over, or told as something else. With `cause`: after a failed read none is made.
     ensures told { ¬ IsErrOf result ReadAllFault.ReadFault →
         S.faults source.new ≡ S.faults source.old }
 
@@ -121,7 +121,7 @@ fn read_pieces<S: Source>(
     ensures ends { ReadsAll limit (S.left source.old) (S.left source.new) result }
     ensures later { S.faults source.old ≤ S.faults source.new }
     ensures cause { IsErrOf result ReadAllFault.ReadFault →
-        Rose (S.faults source.old) (S.faults source.new) }
+        RoseByOne (S.faults source.old) (S.faults source.new) }
     ensures told { ¬ IsErrOf result ReadAllFault.ReadFault →
         S.faults source.new ≡ S.faults source.old }
     ensures turns { S.reads source.new ≤ S.reads source.old + limit + 1 }

@@ -1,5 +1,5 @@
 ghost use Rattle.std.specs.Prelude.{◌≡◌, ◌<◌, ◌≤◌, None, length};
-ghost use Rattle.acpi_io.specs.Faults.{Rose};
+ghost use Rattle.acpi_io.specs.Faults.{RoseByOne};
 ghost use Rattle.acpi_io.specs.Source.{ReadTakes};
 ghost use Rattle.acpi_io.specs.Sink.{WriteAdds};
 ghost use Rattle.acpi_io.specs.Standard.{reader_of, read_faults, writer_of, write_faults, faults_after_read, faults_after_write};
@@ -39,7 +39,7 @@ impl<R: Read> Source for StdSource<R> {
         ensures bytes { ReadTakes result None None into.new }
         ensures later { read_faults self.old ≤ read_faults self.new }
         ensures cause { result ≡ ReadOutcome.Failed →
-            Rose (read_faults self.old) (read_faults self.new) }
+            RoseByOne (read_faults self.old) (read_faults self.new) }
         ensures told { ¬ result ≡ ReadOutcome.Failed →
             read_faults self.new ≡ read_faults self.old }
 
@@ -91,7 +91,7 @@ impl<W: Write> Sink for StdSink<W> {
         ensures bytes { WriteAdds result None None piece.now }
         ensures later { write_faults self.old ≤ write_faults self.new }
         ensures cause { result ≡ WriteOutcome.Failed →
-            Rose (write_faults self.old) (write_faults self.new) }
+            RoseByOne (write_faults self.old) (write_faults self.new) }
         ensures told { ¬ result ≡ WriteOutcome.Failed →
             write_faults self.new ≡ write_faults self.old }
 
