@@ -26,7 +26,7 @@ pub use event::{Event, Fixed, Listed};
 pub use flags::{EcStatus, Pm1Bits};
 pub use geometry::{BadGeometry, GeometryField, GpeGeometry, GpePlace};
 pub use memory::Memory;
-pub use name::{MethodName, NotAName};
+pub use name::{MethodName, NotAName, byte_named, digit_byte};
 
 #[cfg(test)]
 mod tests;

@@ -62,8 +62,8 @@ fn named(letter: u8, number: u8) -> Result<MethodName, NotAName>
     }
 }
 
-/// The byte of two hexadecimal digits.
-fn byte_named(high: u8, low: u8) -> Option<u8>
+/// The byte of two hexadecimal digits, which are upper-case; `None` where one is no such digit.
+pub fn byte_named(high: u8, low: u8) -> Option<u8>
     ensures { result ≡ byte_of high low }
 {
     let high = digit_value(high)?;
@@ -82,7 +82,8 @@ fn digit_value(byte: u8) -> Option<u8>
     }
 }
 
-fn digit_byte(number: u8) -> u8
+/// The hexadecimal digit of a number below 16, upper-case.
+pub fn digit_byte(number: u8) -> u8
     requires { number < 16 }
     ensures { result ≡ digit number }
 {
