@@ -1,3 +1,5 @@
+pub mod Costs
+pub mod Each
 pub mod Exact
 pub mod Lefts
 pub mod Locks

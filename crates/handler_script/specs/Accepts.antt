@@ -83,3 +83,7 @@ pub record Accepted (fields : List Field) (ops : List Op) : Type 0 where
   pub of_side : Side
   pub faultless : script_fault forbidden of_side (length fields) ops ≡ None
   pub short : length ops ≤ 4096
+
+-- the operations are a script, with some fields
+abbrev pub IsScript : List Op → Type 0
+IsScript ops = (fields : List Field) × Accepted fields ops

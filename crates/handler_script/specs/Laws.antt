@@ -6,6 +6,7 @@ use Rattle.handler_script.specs.declared.op.Op.{Op}
 use Rattle.handler_script.specs.Accepts.{Accepted}
 use Rattle.handler_script.specs.Acts.{brings}
 use Rattle.handler_script.specs.Locked.{Locked}
+use Rattle.handler_script.specs.Marked.{Marked}
 use Rattle.handler_script.specs.Plan.{Plan, acts_of, next_act, plan, plan_after}
 
 -- the list of acts for more answers begins with that for fewer
@@ -17,7 +18,7 @@ abbrev pub StepsOn : Type 0
 StepsOn = (p : Plan) (a : Act) (byte : ℕ) (answers : List ℕ) → next_act p ≡ Some a
     → acts_of p (if brings a then byte ∷ answers else answers) ≡ a ∷ acts_of (plan_after (if brings a then byte else 0) p) answers
 
--- an act that is answered with a byte, and has no answer yet, is the last of the list
+-- where there is no answer, and the next act is to be answered with a byte, the acts are that one alone
 abbrev pub Waits : Type 0
 Waits = (p : Plan) (a : Act) → next_act p ≡ Some a → brings a ≡ true → acts_of p [] ≡ a ∷ []
 
@@ -29,3 +30,8 @@ Ends = (p : Plan) (answers : List ℕ) → next_act p ≡ None → acts_of p ans
 -- is free at the end
 abbrev pub LocksInTurn : Type 0
 LocksInTurn = (fields : List Field) (ops : List Op) → Accepted fields ops → Locked false (plan fields ops)
+
+-- in an accepted script the acts that need the lock are marked: each request to the controller, each access to a cell that only
+-- fields which need the lock have, and each access while the lock is held; and no other act
+abbrev pub MarksNeeds : Type 0
+MarksNeeds = (fields : List Field) (ops : List Op) → Accepted fields ops → Marked fields false (plan fields ops)

@@ -1,5 +1,5 @@
 -- What is left of a script where a cursor stands.
-use Rattle.std.specs.Prelude.{ℕ, ◌+◌, ◌-◌, ◌%◌, ◌^◌, Bool, true, false, ◌&&◌, nat_lt, nat_le, List, [], ◌∷◌, length, drop, Option, Some, None, slice_get}
+use Rattle.std.specs.Prelude.{◌≡◌, ℕ, ◌+◌, ◌-◌, ◌≤◌, ◌==◌, ◌%◌, ◌^◌, Bool, true, false, ◌&&◌, ◌||◌, not, nat_lt, nat_le, List, [], ◌∷◌, length, drop, Option, Some, None, slice_get}
 use Rattle.field_units.specs.Bits.{byte_count, replaced}
 use Rattle.field_units.specs.Field.{Field}
 use Rattle.handler_script.specs.declared.cursor.Cursor.{Cursor}
@@ -8,7 +8,7 @@ use Rattle.handler_script.specs.declared.op.Op.TheVariants as op
 use Rattle.handler_script.specs.declared.stage.Stage.{Stage}
 use Rattle.handler_script.specs.declared.stage.Stage.TheVariants as stage
 use Rattle.handler_script.specs.Parts.{access_needs, bursts, takes_lock, write_act}
-use Rattle.handler_script.specs.Plan.{Plan, Do, End, closed, on_field, opened, plan_from, plan_op, read_from, unlocked, write_from}
+use Rattle.handler_script.specs.Plan.{Plan, Do, End, closed, on_field, opened, plan, plan_from, plan_op, read_from, unlocked, write_from}
 
 -- the value that an op writes to its field, where `last` was read last
 abbrev pub written : Op → Field → ℕ → ℕ
@@ -98,13 +98,39 @@ abbrev pub stands_in : List Field → Option Op → Bool → Stage → Bool
 stands_in fields (Some o) held s = stands_at (field_named fields o) held s
 stands_in fields None held s = stands_at None held s
 
--- an act can stand where the cursor is: at an op that is not done, or at the end
-unfoldable pub stands : List Field → List Op → Cursor → Bool
-stands fields ops c = nat_le c.op (length ops) && stands_in fields (slice_get ops c.op) c.held c.place.stage
+-- the cursor is at an op that is not done, or at the end
+unfoldable pub is_placed : List Field → List Op → Cursor → Bool
+is_placed fields ops c = nat_le c.op (length ops) && stands_in fields (slice_get ops c.op) c.held c.place.stage
 
 abbrev pub is_skip : Op → Bool
 is_skip (op.Skip v k) = true
 is_skip _ = false
+
+abbrev pub is_at_skip : Option Op → Bool
+is_at_skip None = false
+is_at_skip (Some o) = is_skip o
+
+abbrev pub is_before : Stage → Bool
+is_before stage.Before = true
+is_before _ = false
+
+-- no act is passed yet
+abbrev pub is_new : Cursor → Bool
+is_new c = (c.op == 0) && (is_before c.place.stage && ((c.place.last == 0) && not c.held))
+
+-- an act can stand where the cursor is; only a new one is at a skip
+unfoldable pub stands : List Field → List Op → Cursor → Bool
+stands fields ops c = is_placed fields ops c && (is_new c || not (is_at_skip (slice_get ops c.op)))
+
+-- the cursor stands at a place of the script, with some fields
+abbrev pub IsPlaced : List Op → Cursor → Type 0
+IsPlaced ops c = (fields : List Field) × (is_placed fields ops c ≡ true)
+
+-- the script begins at this op: those before it are passed over by the skips at its begin, and it is none
+pub record Begins (ops : List Op) (begin : ℕ) : Type 0 where
+  pub within : begin ≤ length ops
+  pub act : (o : Op) → slice_get ops begin ≡ Some o → is_skip o ≡ false
+  pub same : (fields : List Field) → plan_from fields (drop begin ops) false 0 0 ≡ plan fields ops
 
 -- whether a hold is open after an op
 abbrev pub held_after : Op → Bool → Bool

@@ -1,7 +1,10 @@
 pub mod Accepts
 pub mod Acts
+pub mod Costs
+pub mod Each
 pub mod Laws
 pub mod Left
 pub mod Locked
+pub mod Marked
 pub mod Parts
 pub mod Plan

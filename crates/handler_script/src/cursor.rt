@@ -1,8 +1,8 @@
 ghost use Rattle.std.specs.Prelude.{◌≡◌, ◌+◌, ◌<◌, ◌≤◌, Bool, List, None, Some, ℕ, false, if◌then◌else◌, is_some, length, option_map, slice_get, true, ◌==◌, MatchOption, unwrap_or};
 ghost use Rattle.field_units.specs.Field.{Field};
-ghost use Rattle.handler_script.specs.Accepts.{Accepted};
+ghost use Rattle.handler_script.specs.Accepts.{Accepted, IsScript};
 ghost use Rattle.handler_script.specs.Acts.{brings};
-ghost use Rattle.handler_script.specs.Left.{field_named, is_access, is_done, is_entered, is_ready, is_skip, left, rest_of_op, stands};
+ghost use Rattle.handler_script.specs.Left.{Begins, IsPlaced, field_named, is_access, is_done, is_entered, is_placed, is_ready, is_skip, left, rest_of_op, stands};
 ghost use Rattle.handler_script.specs.Plan.{Plan, next_act, plan, plan_after, plan_op};
 ghost use Rattle.handler_script.specs.declared.op.Op.{Op};
 
@@ -25,12 +25,19 @@ impl Cursor {
         ensures left { (fields : List Field) (ops : List Op) → left fields ops result ≡ plan fields ops }
         ensures stands { (fields : List Field) (ops : List Op) → stands fields ops result ≡ true }
     {
+        Cursor::fresh_at(0)
+    }
+
+    /// At an operation before which there was no act.
+    fn fresh_at(op: u16) -> Cursor
+        ensures { result ≡ record { op = op; place = record { stage = Stage.Before; last = 0 }; held = false } }
+    {
         let place = Place {
             stage: Stage::Before,
             last: 0,
         };
         Cursor {
-            op: 0,
+            op,
             place,
             held: false,
         }
@@ -39,14 +46,14 @@ impl Cursor {
     /// The next act, or `None` where the script has ended. The script is one that is accepted with these fields, and the
     /// cursor has passed acts of this script with these fields alone.
     ///
-    /// It takes constant time, but for skips at the begin of a script, before any act is answered.
+    /// It takes constant time.
     pub fn next(&self, script: &Script, fields: &[FieldUnit]) -> Option<Act>
         requires accepted { Accepted fields.now script.now }
         requires stands { stands fields.now script.now self.now ≡ true }
         ensures { result ≡ next_act (left fields.now script.now self.now) }
     {
         let ops = script.ops();
-        let cursor = self.past_skips(ops, fields);
+        let cursor = self.begun(script, fields);
         match cursor.at(ops) {
             Some(op) => Some(cursor.act_of(op, ops, fields)),
             None => None,
@@ -64,10 +71,10 @@ impl Cursor {
             ≡ plan_after (unwrap_or byte 0) (left fields.now script.now self.old) }
     {
         let ops = script.ops();
-        let cursor = self.past_skips(ops, fields);
+        let cursor = self.begun(script, fields);
         if let Some(op) = cursor.at(ops) {
             let cursor = cursor.after(op, ops, fields, byte.unwrap_or(0));
-            *self = cursor.past_skips(ops, fields);
+            *self = cursor.past_skips(ops);
         }
     }
 
@@ -77,28 +84,45 @@ impl Cursor {
         ops.get(usize::from(self.op)).copied()
     }
 
+    /// At the next act. Only a new cursor can be at a skip, and the script knows where that one begins.
+    fn begun(&self, script: &Script, fields: &[FieldUnit]) -> Cursor
+        requires stands { stands fields.now script.now self.now ≡ true }
+        ensures placed { is_placed fields.now script.now result ≡ true }
+        ensures left { left fields.now script.now result ≡ left fields.now script.now self.now }
+        ensures act { (o : Op) → slice_get script.now result.op ≡ Some o → is_skip o ≡ false }
+    {
+        match self.at(script.ops()) {
+            Some(Op::Skip(..)) => Cursor::fresh_at(script.begin()),
+            _ => *self,
+        }
+    }
+
     /// Past the skips that stand before the next act.
-    fn past_skips(&self, ops: &[Op], fields: &[FieldUnit]) -> Cursor
-        requires accepted { Accepted fields.now ops.now }
-        requires stands { stands fields.now ops.now self.now ≡ true }
-        ensures stands { stands fields.now ops.now result ≡ true }
-        ensures left { left fields.now ops.now result ≡ left fields.now ops.now self.now }
+    fn past_skips(&self, ops: &[Op]) -> Cursor
+        requires script { IsScript ops.now }
+        requires placed { IsPlaced ops.now self.now }
+        ensures placed { (any : List Field) → is_placed any ops.now self.now ≡ true → is_placed any ops.now result ≡ true }
+        ensures left { (any : List Field) → left any ops.now result ≡ left any ops.now self.now }
         ensures act { (o : Op) → slice_get ops.now result.op ≡ Some o → is_skip o ≡ false }
+        ensures place { result.place ≡ self.now.place }
+        ensures held { result.held ≡ self.now.held }
     {
         let mut cursor = *self;
         while let Some(Op::Skip(value, count)) = cursor.at(ops) {
-            cursor = cursor.past_skip(value, count, ops, fields);
+            cursor = cursor.past_skip(value, count, ops);
         }
         cursor
     }
 
     /// Past the skip at which the cursor stands, and the operations that it passes over.
-    fn past_skip(&self, value: u64, count: u16, ops: &[Op], fields: &[FieldUnit]) -> Cursor
-        requires accepted { Accepted fields.now ops.now }
-        requires stands { stands fields.now ops.now self.now ≡ true }
+    fn past_skip(&self, value: u64, count: u16, ops: &[Op]) -> Cursor
+        requires script { IsScript ops.now }
+        requires placed { IsPlaced ops.now self.now }
         requires at { slice_get ops.now self.now.op ≡ Some (Op.Skip value count) }
-        ensures stands { stands fields.now ops.now result ≡ true }
-        ensures left { left fields.now ops.now result ≡ left fields.now ops.now self.now }
+        ensures placed { (any : List Field) → is_placed any ops.now self.now ≡ true → is_placed any ops.now result ≡ true }
+        ensures left { (any : List Field) → left any ops.now result ≡ left any ops.now self.now }
+        ensures place { result.place ≡ self.now.place }
+        ensures held { result.held ≡ self.now.held }
         ensures further { self.now.op < result.op }
         ensures within { result.op ≤ length ops.now }
     {
@@ -112,7 +136,7 @@ impl Cursor {
     /// The act of the operation at which the cursor stands.
     fn act_of(&self, op: Op, ops: &[Op], fields: &[FieldUnit]) -> Act
         requires accepted { Accepted fields.now ops.now }
-        requires stands { stands fields.now ops.now self.now ≡ true }
+        requires placed { is_placed fields.now ops.now self.now ≡ true }
         requires at { slice_get ops.now self.now.op ≡ Some op }
         requires skip { is_skip op ≡ false }
         ensures { next_act (left fields.now ops.now self.now) ≡ Some result }
@@ -129,10 +153,10 @@ impl Cursor {
     /// The cursor once the act of its operation is answered.
     fn after(&self, op: Op, ops: &[Op], fields: &[FieldUnit], byte: u8) -> Cursor
         requires accepted { Accepted fields.now ops.now }
-        requires stands { stands fields.now ops.now self.now ≡ true }
+        requires placed { is_placed fields.now ops.now self.now ≡ true }
         requires at { slice_get ops.now self.now.op ≡ Some op }
         requires skip { is_skip op ≡ false }
-        ensures stands { stands fields.now ops.now result ≡ true }
+        ensures placed { is_placed fields.now ops.now result ≡ true }
         ensures left { left fields.now ops.now result ≡ plan_after byte (left fields.now ops.now self.now) }
     {
         match field_of(op, fields) {
@@ -164,6 +188,14 @@ impl Cursor {
             held,
         }
     }
+}
+
+/// The operation at which a script begins: the first one that the skips at its begin do not pass over.
+pub(crate) fn begin_of(ops: &[Op]) -> u16
+    requires { IsScript ops.now }
+    ensures { Begins ops.now result }
+{
+    Cursor::fresh_at(0).past_skips(ops).op
 }
 
 /// How many operations a skip passes over.

@@ -1,8 +1,12 @@
 //! What the plan of a script comes to: facts for the proofs of the crates above, which cost nothing to call.
-ghost use Rattle.std.specs.Prelude.{false};
+ghost use Rattle.std.specs.Prelude.{List, false};
 ghost use Rattle.acpi_regs.specs.Comparisons.{IsExact};
-ghost use Rattle.handler_script.specs.Laws.{Ends, GoesOn, LocksInTurn, StepsOn, Waits};
+ghost use Rattle.field_units.specs.Field.{Field};
+ghost use Rattle.handler_script.specs.Costs.{CostsItsOps};
+ghost use Rattle.handler_script.specs.Each.{IsTrueOfEach};
+ghost use Rattle.handler_script.specs.Laws.{Ends, GoesOn, LocksInTurn, MarksNeeds, StepsOn, Waits};
 ghost use Rattle.handler_script.specs.Locked.{Locked};
+ghost use Rattle.handler_script.specs.Marked.{Marked};
 ghost use Rattle.handler_script.specs.Plan.{empty_plan, query_plan};
 ghost use Rattle.handler_script.specs.contracts.act.ActPartialEq.TheImpl as act_eq;
 ghost use Rattle.handler_script.specs.contracts.fault.ScriptFaultPartialEq.TheImpl as script_fault_eq;
@@ -10,7 +14,8 @@ ghost use Rattle.handler_script.specs.contracts.fault.ScriptFaultPartialEq.TheIm
 use crate::{Act, ScriptFault};
 
 /// The acts for more answers begin with those for fewer. Once the next act is answered, the acts are that act and then those
-/// of what is left. An act that has no answer yet is the last; where no act is next there is none.
+/// of what is left. Where there is no answer, a next act that is to be answered with a byte is the only one; where no act is
+/// next there is none.
 pub fn law_acts()
     ensures goes_on { GoesOn }
     ensures steps_on { StepsOn }
@@ -24,6 +29,25 @@ pub fn law_locked()
     ensures script { LocksInTurn }
     ensures query { Locked false query_plan }
     ensures empty { Locked false empty_plan }
+{}
+
+/// In an accepted script, and in a query job, each request to the controller is marked as an act that needs the lock, and so
+/// is each access to a cell that only fields which need the lock have, and each access while the lock is held. No other
+/// act is.
+pub fn law_marked()
+    ensures script { MarksNeeds }
+    ensures query { (fields : List Field) → Marked fields false query_plan }
+{}
+
+/// What is true on every field, and of the act of every operation that names none, is true of each act of a script.
+pub fn law_each()
+    ensures { IsTrueOfEach }
+{}
+
+/// Whatever its acts are answered, and whatever prices they have, an accepted script costs no more than the sum over its
+/// operations, passed over or not.
+pub fn law_costs()
+    ensures { CostsItsOps }
 {}
 
 /// Two values are `==` exactly where they are the same.

@@ -5,7 +5,7 @@ use Rattle.handler_script.proofs.Sounds.{plain_named}
 use Rattle.handler_script.proofs.cursor.Cursor.act_of.Goals as goal
 
 pub started-place-requires-clause-entered : goal.started-place-requires-clause-entered
-started-place-requires-clause-entered c = stands_entered c.args.fields.now c.args.ops.now c.args.self.now c.args.op c.in-Some.field c.requires.at (sym c.field_of.ensures ∙ c.in-Some.is) c.requires.stands
+started-place-requires-clause-entered c = stands_entered c.args.fields.now c.args.ops.now c.args.self.now c.args.op c.in-Some.field c.requires.at (sym c.field_of.ensures ∙ c.in-Some.is) c.requires.placed
 
 pub plain_act-requires-clause-access : goal.plain_act-requires-clause-access
 plain_act-requires-clause-access c = plain_named c.args.fields.now c.args.ops.now c.args.self.now.op c.args.op c.requires.accepted c.requires.at (sym c.field_of.ensures ∙ c.in-None.is)

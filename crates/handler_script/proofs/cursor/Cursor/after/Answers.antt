@@ -7,7 +7,7 @@ use Rattle.handler_script.proofs.Sounds.{plain_named}
 use Rattle.handler_script.proofs.cursor.Cursor.after.Goals as goal
 
 pub started-place-requires-clause-entered : goal.started-place-requires-clause-entered
-started-place-requires-clause-entered c = stands_entered c.args.fields.now c.args.ops.now c.args.self.now c.args.op c.in-Some.field c.requires.at (sym c.field_of.ensures ∙ c.in-Some.is) c.requires.stands
+started-place-requires-clause-entered c = stands_entered c.args.fields.now c.args.ops.now c.args.self.now c.args.op c.in-Some.field c.requires.at (sym c.field_of.ensures ∙ c.in-Some.is) c.requires.placed
 
 pub held_after-requires-clause-access : goal.held_after-requires-clause-access
 held_after-requires-clause-access c = plain_named c.args.fields.now c.args.ops.now c.args.self.now.op c.args.op c.requires.accepted c.requires.at (sym c.field_of.ensures ∙ c.in-None.is)
@@ -22,8 +22,8 @@ past_op-requires-in-None c =
     let within : c.args.self.now.op < length c.args.ops.now = slice_get_within c.args.ops.now c.args.self.now.op c.args.op c.requires.at in
     omega (arith, c.requires.accepted.short)
 
-pub returns-in-Done-clause-stands : goal.returns-in-Done-clause-stands
-returns-in-Done-clause-stands c =
+pub returns-in-Done-clause-placed : goal.returns-in-Done-clause-placed
+returns-in-Done-clause-placed c =
     let within : c.args.self.now.op < length c.args.ops.now = slice_get_within c.args.ops.now c.args.self.now.op c.args.op c.requires.at in
     let op_is : c.past_op.result.op ≡ c.args.self.now.op + 1 = ap (λ d. d.op) c.past_op.ensures in
     let inside : c.past_op.result.op ≤ length c.args.ops.now = omega arith in
@@ -54,7 +54,7 @@ returns-in_default c =
     let next = λ (value : ℕ). plan_from fields (drop (self.op + 1) ops) self.held value 0 in
     let within : self.op < length ops = slice_get_within ops self.op o c.requires.at in
     record {
-      stands = stands_where fields ops _ o field c.requires.at (sym c.field_of.ensures ∙ c.in-Some.is) (omega arith)
+      placed = stands_where fields ops _ o field c.requires.at (sym c.field_of.ensures ∙ c.in-Some.is) (omega arith)
           (entered_ready field self.held c.settled-place.result.stage c.settled-place.ensures.ready c.in_default.not-Done);
       left = field_left fields ops _ o field c.requires.at (sym c.field_of.ensures ∙ c.in-Some.is)
           ∙ c.settled-place.ensures.same next
@@ -62,8 +62,8 @@ returns-in_default c =
           ∙ ap (plan_after c.args.byte) (c.started-place.ensures.same next ∙ sym (field_left fields ops self o field c.requires.at (sym c.field_of.ensures ∙ c.in-Some.is)));
     }
 
-pub returns-in-None-clause-stands : goal.returns-in-None-clause-stands
-returns-in-None-clause-stands c =
+pub returns-in-None-clause-placed : goal.returns-in-None-clause-placed
+returns-in-None-clause-placed c =
     let within : c.args.self.now.op < length c.args.ops.now = slice_get_within c.args.ops.now c.args.self.now.op c.args.op c.requires.at in
     let op_is : c.past_op-in-None.result.op ≡ c.args.self.now.op + 1 = ap (λ d. d.op) c.past_op-in-None.ensures in
     let inside : c.past_op-in-None.result.op ≤ length c.args.ops.now = omega arith in

@@ -4,7 +4,9 @@ use Rattle.handler_script.proofs.cursor.Cursor.past_skips.Goals as goal
 
 pub loop-value-init : goal.loop-value-init
 loop-value-init c = record {
-  stands = c.requires.stands;
-  same = refl;
-  within = stands_within c.args.fields.now c.args.ops.now c.args.self.now c.requires.stands;
+  placed = λ any placed. placed;
+  same = λ any. refl;
+  place = refl;
+  held = refl;
+  within = stands_within c.requires.placed.0 c.args.ops.now c.args.self.now c.requires.placed.1;
 }

@@ -1,11 +1,14 @@
-use Rattle.std.proofs.Common.{◌≡◌, ◌-◌, ◌≤◌, true, length}
-use Rattle.handler_script.specs.Left.{left, stands}
+use Rattle.std.proofs.Common.{◌≡◌, ◌-◌, ◌≤◌, true, List, length}
+use Rattle.field_units.specs.Field.{Field}
+use Rattle.handler_script.specs.Left.{is_placed, left}
 use Rattle.handler_script.proofs.cursor.Cursor.past_skips.Given as goal
 
 abbrev pub invariant-loop-value : goal.invariant-loop-value
 invariant-loop-value l = record {
-  stands : stands l.fields l.ops l.cursor ≡ true;
-  same : left l.fields l.ops l.cursor ≡ left l.fields l.ops l.self;
+  placed : (any : List Field) → is_placed any l.ops l.self ≡ true → is_placed any l.ops l.cursor ≡ true;
+  same : (any : List Field) → left any l.ops l.cursor ≡ left any l.ops l.self;
+  place : l.cursor.place ≡ l.self.place;
+  held : l.cursor.held ≡ l.self.held;
   within : l.cursor.op ≤ length l.ops;
 }
 
