@@ -36,18 +36,18 @@ abbrev pub put_out : Option Effect → List ℕ
 put_out (Some (effect.Out byte)) = code byte
 put_out _ = []
 
--- what it puts out for a query is a code that it gives
-abbrev pub given_on : Half → Option ℕ → List ℕ → List ℕ
-given_on half.Nothing (Some byte) out = if byte == 132 then out else []
-given_on _ _ out = []
+-- a code is what it puts out for a query; whether the host reads it there is another matter
+abbrev pub code_out : Half → Option ℕ → List ℕ → List ℕ
+code_out half.Nothing (Some byte) out = if byte == 132 then out else []
+code_out _ _ out = []
 
-abbrev pub given_by : Call → ChipData → List ℕ
-given_by Step c = given_on c.exchange.half c.exchange.input (put_out (next_effect c))
-given_by _ c = []
+abbrev pub codes_out_by : Call → ChipData → List ℕ
+codes_out_by Step c = code_out c.exchange.half c.exchange.input (put_out (next_effect c))
+codes_out_by _ c = []
 
-abbrev pub given : List Call → ChipData → List ℕ
-given [] c = []
-given (call ∷ later) c = given_by call c ++ given later (after_call call c)
+abbrev pub codes_out : List Call → ChipData → List ℕ
+codes_out [] c = []
+codes_out (call ∷ later) c = codes_out_by call c ++ codes_out later (after_call call c)
 
 abbrev pub pushed : List Call → List ℕ
 pushed [] = []
@@ -57,11 +57,11 @@ pushed (_ ∷ later) = pushed later
 abbrev pub AreCodes : List ℕ → Type 0
 AreCodes codes = All (λ q. 0 < q) codes
 
--- each code is given once and in its order: the codes that were given, and those that wait, are those that waited
+-- each code is put out once and in its order: the codes that were put out, and those that wait, are those that waited
 -- at first, and those that were pushed
-abbrev pub GivesInOrder : List Call → ChipData → Type 0
-GivesInOrder calls c =
-    AreCodes c.codes → AreCodes (pushed calls) → given calls c ++ (after_calls calls c).codes ≡ c.codes ++ pushed calls
+abbrev pub PutsOutInOrder : List Call → ChipData → Type 0
+PutsOutInOrder calls c =
+    AreCodes c.codes → AreCodes (pushed calls) → codes_out calls c ++ (after_calls calls c).codes ≡ c.codes ++ pushed calls
 
 -- ---- burst mode
 

@@ -1,14 +1,15 @@
 //! Laws over the definitions of this crate, each for every state and list of calls. A law is a function with
 //! nothing to do, whose contract says it.
 ghost use Rattle.std.specs.Prelude.{◌≡◌, ◌↔◌, List, IsTrue};
-ghost use Rattle.ec_chip.specs.Calls.{Call, GivesInOrder, LastTurns, TellsStatus};
+ghost use Rattle.ec_chip.specs.Calls.{Call, LastTurns, PutsOutInOrder, TellsStatus};
 ghost use Rattle.ec_chip.specs.Chip.{ChipData};
 
 use crate::CtlOutcome;
 
-/// Whatever calls are made, each query code is given once, in the order in which the codes were pushed.
+/// Whatever calls are made, the controller puts each query code out once, in the order in which the codes were pushed. It
+/// is not said that the host reads it there.
 pub fn law_codes_in_order()
-    ensures { (calls : List Call) (c : ChipData) → GivesInOrder calls c }
+    ensures { (calls : List Call) (c : ChipData) → PutsOutInOrder calls c }
 {}
 
 /// Whatever calls are made, burst mode is what the last call made it that turns it on or off.

@@ -5,8 +5,8 @@ use Rattle.event_chip.specs.declared.state.EventKind.TheVariants as kind
 use Rattle.event_chip.specs.declared.state.EventState.{EventState}
 use Rattle.event_chip.specs.declared.state.Touch.{Touch}
 use Rattle.event_chip.specs.declared.state.Touch.TheVariants as touch
-use Rattle.event_chip.specs.State.{after_all, asserted, claimed, downed, dropped, finished, is_level, is_pending, raised, upped}
-use Rattle.event_chip.specs.Laws.{unclaimed, unfinished, leaves_line, finishes, Holds, KeepsRaise, ParksAtSixteen}
+use Rattle.event_chip.specs.State.{after_all, asserted, claimed, downed, dropped, finished, is_level, is_listed, is_pending, raised, upped}
+use Rattle.event_chip.specs.Laws.{unclaimed, unfinished, leaves_line, finishes, Holds, KeepsRaise, LevelStays, ParksAtSixteen}
 
 -- the status stays
 stays : (k : EventKind) (ts : List Touch) (s : EventState) → is_level k ≡ false → unclaimed ts ≡ true → s.status ≡ true → (after_all k ts s).status ≡ true
@@ -42,19 +42,29 @@ sixteen n = grind (arith, rules)
 pub parks : ParksAtSixteen
 parks ts s l = ap (λ n. nat_le 16 n) (counted ts (asserted s) l refl (omega arith)) ∙ sixteen (finishes ts)
 
+pub level_stays : LevelStays
+level_stays [] s u h = h
+level_stays (touch.Raise ∷ ts) s u h = level_stays ts (raised s) u refl
+level_stays (touch.Assert ∷ ts) s u h = level_stays ts (asserted s) u refl
+level_stays (touch.Drop ∷ ts) s u h = level_stays ts (dropped s) u h
+level_stays (touch.Claim ∷ ts) s u h = level_stays ts (claimed kind.Level s) u h
+level_stays (touch.Finish ∷ ts) s u h = cc
+level_stays (touch.Up ∷ ts) s u h = level_stays ts (upped s) u h
+level_stays (touch.Down ∷ ts) s u h = level_stays ts (downed s) u h
+
 -- a held event stays held
-holding : (k : EventKind) (ts : List Touch) (s : EventState) → unfinished ts ≡ true → s.held ≡ true → (after_all k ts s).held ≡ true
-holding k [] s u h = h
-holding k (touch.Raise ∷ ts) s u h = holding k ts (raised s) u h
-holding k (touch.Assert ∷ ts) s u h = holding k ts (asserted s) u h
-holding k (touch.Drop ∷ ts) s u h = holding k ts (dropped s) u h
-holding k (touch.Claim ∷ ts) s u h = cc
-holding k (touch.Finish ∷ ts) s u h = cc
-holding k (touch.Up ∷ ts) s u h = holding k ts (upped s) u h
-holding k (touch.Down ∷ ts) s u h = holding k ts (downed s) u h
+holding : (k : EventKind) (ts : List Touch) (s : EventState) → is_listed k ≡ true → unfinished ts ≡ true → s.held ≡ true → (after_all k ts s).held ≡ true
+holding k [] s l u h = h
+holding k (touch.Raise ∷ ts) s l u h = holding k ts (raised s) l u h
+holding k (touch.Assert ∷ ts) s l u h = holding k ts (asserted s) l u h
+holding k (touch.Drop ∷ ts) s l u h = holding k ts (dropped s) l u h
+holding k (touch.Claim ∷ ts) s l u h = holding k ts (claimed k s) l u l
+holding k (touch.Finish ∷ ts) s l u h = cc
+holding k (touch.Up ∷ ts) s l u h = holding k ts (upped s) l u h
+holding k (touch.Down ∷ ts) s l u h = holding k ts (downed s) l u h
 
 idle : (k : EventKind) (s : EventState) → s.held ≡ true → is_pending k s ≡ false
 idle k s h = search rules
 
 pub holds : Holds
-holds k ts s l u = idle k (after_all k ts (claimed k s)) (holding k ts (claimed k s) u l)
+holds k ts s l u = idle k (after_all k ts (claimed k s)) (holding k ts (claimed k s) l u l)

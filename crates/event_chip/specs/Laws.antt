@@ -47,14 +47,13 @@ Revives = (s : EventState) → (is_parked kind.Level (dropped s) ≡ false) × (
 abbrev pub Counts : Type 0
 Counts = (s : EventState) → (s.count < 255 → (upped s).count ≡ s.count + 1) × (s.count ≡ 255 → (upped s).count ≡ 255) × (0 < s.count → (downed s).count + 1 ≡ s.count) × (s.count ≡ 0 → (downed s).count ≡ 0)
 
--- the run of the event did not end, and it was not claimed
+-- no run of the event ended
 abbrev pub unfinished : List Touch → Bool
 unfinished [] = true
-unfinished (touch.Claim ∷ ts) = false
 unfinished (touch.Finish ∷ ts) = false
 unfinished (t ∷ ts) = unfinished ts
 
--- a listed event is not dispatched again before its run has ended, whatever else happens
+-- a listed event that was claimed is not dispatched again before its run has ended, whatever else happens, claims too
 abbrev pub Holds : Type 0
 Holds = (k : EventKind) (ts : List Touch) (s : EventState) → is_listed k ≡ true → unfinished ts ≡ true → is_pending k (after_all k ts (claimed k s)) ≡ false
 
@@ -62,6 +61,10 @@ Holds = (k : EventKind) (ts : List Touch) (s : EventState) → is_listed k ≡ t
 abbrev pub NeedsReference : Type 0
 NeedsReference = (k : EventKind) (s : EventState) → is_listed k ≡ true → s.count ≡ 0 → is_pending k s ≡ false
 
--- a level status stays at a claim and at a drop of the line: only the end of the run may clear it
+-- a level status stays whatever happens, but for the end of a run, which may clear it
 abbrev pub LevelStays : Type 0
-LevelStays = (s : EventState) → ((claimed kind.Level s).status ≡ s.status) × ((dropped s).status ≡ s.status)
+LevelStays = (ts : List Touch) (s : EventState) → unfinished ts ≡ true → s.status ≡ true → (after_all kind.Level ts s).status ≡ true
+
+-- neither a claim nor a drop of the line raises or clears a level status
+abbrev pub LeavesLevel : Type 0
+LeavesLevel = (s : EventState) → ((claimed kind.Level s).status ≡ s.status) × ((dropped s).status ≡ s.status)

@@ -1,17 +1,18 @@
 //! What follows for an event from the ways in which it is touched: facts for the proofs of the crates above, which cost
 //! nothing to call.
-ghost use Rattle.event_chip.specs.Laws.{Counts, FollowsLine, Holds, KeepsRaise, LevelStays, NeedsReference, ParksAtSixteen, Revives};
+ghost use Rattle.event_chip.specs.Laws.{Counts, FollowsLine, Holds, KeepsRaise, LeavesLevel, LevelStays, NeedsReference, ParksAtSixteen, Revives};
 
 /// A raise of an edge event stays until it is claimed, also one between a claim and its finish.
 pub fn law_raise_kept()
     ensures { KeepsRaise }
 {}
 
-/// A run of a level event that ends under an asserted line raises the event again, and any other does not. Neither a claim
-/// nor a drop of the line clears a level status.
+/// A run of a level event that ends under an asserted line raises the event again, and any other does not. Nothing but the
+/// end of a run clears a level status, and neither a claim nor a drop of the line raises one.
 pub fn law_line()
     ensures follows { FollowsLine }
     ensures stays { LevelStays }
+    ensures leaves { LeavesLevel }
 {}
 
 /// A level event is parked exactly where sixteen runs or more ended since its line was asserted, with no drop and no
@@ -26,7 +27,8 @@ pub fn law_counts()
     ensures { Counts }
 {}
 
-/// A listed event is not dispatched again before its run has ended, nor while it has no reference.
+/// A listed event that was claimed is not dispatched again before its run has ended, whatever else happens, nor while it has
+/// no reference.
 pub fn law_enabled()
     ensures holds { Holds }
     ensures needs { NeedsReference }
