@@ -1,1 +1,6 @@
-pub mod RuleFacts
+pub mod EachItem
+pub mod Facts
+pub mod Forms
+pub mod Groups
+pub mod Order
+pub mod Ruled

@@ -1,4 +1,10 @@
+pub mod Actors
+pub mod Answers
+pub mod Faults
+pub mod Given
+pub mod Groups
+pub mod Kept
 pub mod Machine
-pub mod Parts
-pub mod Plan
 pub mod Rules
+pub mod Sound
+pub mod Weight

@@ -1,37 +1,87 @@
--- A machine as plain data.
-use Rattle.std.specs.Prelude.{ℕ, ◌-◌, List, [], ◌++◌, length, map, sum_by, replicate, Option, Some, None, unwrap_or, slice_get, slice_index}
-use Rattle.acpi_regs.specs.declared.entry.Cell.{Cell}
-use Rattle.machine_desc.specs.declared.parts.Region.{Region}
-use Rattle.machine_desc.specs.declared.parts.RegionPart.{RegionPart}
+-- A machine as plain data, and the machine that the parts of a description describe.
+use Rattle.std.specs.Prelude.{ℕ, ◌-◌, Bool, true, false, List, length, map, replicate, ◌++◌, Option, Some, None, option_map, slice_get}
+use Rattle.acpi_regs.specs.declared.actor.Actor.{Actor}
+use Rattle.acpi_regs.specs.declared.event.Event.{Event}
+use Rattle.acpi_regs.specs.declared.event.Listed.{Listed}
+use Rattle.field_units.specs.declared.rules.LockRule.{LockRule}
+use Rattle.field_units.specs.declared.rules.LockRule.TheVariants as lock
+use Rattle.field_units.specs.declared.rules.RegionKind.{RegionKind}
+use Rattle.field_units.specs.declared.rules.RegionKind.TheVariants as kind
+use Rattle.field_units.specs.Field.{Field, RegionData}
+use Rattle.handler_script.specs.declared.op.Op.{Op}
+use Rattle.machine_desc.specs.declared.machine.ControllerDesc.{ControllerDesc}
+use Rattle.machine_desc.specs.declared.machine.ListedEvent.{ListedEvent}
+use Rattle.machine_desc.specs.declared.machine.Query.{Query}
+use Rattle.machine_desc.specs.declared.parts.ControllerPart.{ControllerPart}
+use Rattle.machine_desc.specs.declared.parts.EventPart.{EventPart}
 use Rattle.machine_desc.specs.declared.parts.FieldPart.{FieldPart}
-use Rattle.machine_desc.specs.declared.script.Op.{Op}
+use Rattle.machine_desc.specs.declared.parts.MachineParts.{MachineParts}
+use Rattle.machine_desc.specs.declared.parts.QueryPart.{QueryPart}
+use Rattle.machine_desc.specs.declared.parts.RegionPart.{RegionPart}
 
 pub record MachineData : Type 0 where
-  pub regions : List Region
-  pub fields : List FieldPart
+  pub version : ℕ
+  pub gpe0 : ℕ
+  pub base1 : ℕ
+  pub gpe1 : ℕ
+  pub workers : ℕ
+  pub regions : List RegionData
+  pub fields : List Field
+  pub events : List ListedEvent
+  pub controller : Option ControllerDesc
   pub firmware : List (List Op)
+  pub devices : List (List Event)
+  pub schedule : List Actor
 
--- the region that a part describes: the given bytes first and zeros after
-abbrev pub region_of : RegionPart → Region
-region_of part = record { kind = part.kind; cells = part.bytes ++ replicate (part.len - length part.bytes) 0 }
+-- a region: the given bytes first and zeros after
+abbrev pub region_of : RegionPart → RegionData
+region_of r = record { kind = r.kind; cells = r.bytes ++ replicate (r.len - length r.bytes) 0 }
 
--- the machine that these parts describe
-abbrev pub described : List RegionPart → List FieldPart → List (List Op) → MachineData
-described regions fields firmware = record { regions = map region_of regions; fields = fields; firmware = firmware }
+abbrev pub kind_of : Option RegionPart → RegionKind
+kind_of None = kind.Memory
+kind_of (Some r) = r.kind
 
--- the byte that the cells of a region have at an offset, and 0 past their end
-abbrev pub byte_at : Option Region → ℕ → ℕ
-byte_at None offset = 0
-byte_at (Some region) offset = slice_index region.cells offset
+-- how many cells a region has
+abbrev pub len_of : Option RegionPart → ℕ
+len_of None = 0
+len_of (Some r) = r.len
 
--- the description's byte of a cell
-abbrev pub first_byte : MachineData → Cell → ℕ
-first_byte m c = byte_at (slice_get m.regions c.region) c.offset
+abbrev pub lock_of : Bool → LockRule
+lock_of true = lock.Lock
+lock_of false = lock.NoLock
 
--- the operations of a firmware script; there are none where the machine has no such script
-abbrev pub script_of : MachineData → ℕ → List Op
-script_of m k = unwrap_or (slice_get m.firmware k) []
+-- a field, with what it takes from its region
+abbrev pub field_in : Option RegionPart → FieldPart → Field
+field_in region f = record { region = f.region; kind = kind_of region; len = len_of region; bit = f.bit; width = f.width; lock = lock_of f.lock; update = f.update }
 
--- at most how many entries the machine's history can have: each operation is one access
-abbrev pub weight_of : MachineData → ℕ
-weight_of m = sum_by length m.firmware
+abbrev pub field_of : List RegionPart → FieldPart → Field
+field_of regions f = field_in (slice_get regions f.region) f
+
+abbrev pub listed_part : EventPart → Listed
+listed_part e = record { event = e.event; level = e.level; refs = e.refs }
+
+abbrev pub listed_of : EventPart → ListedEvent
+listed_of e = record { listed = listed_part e; script = e.script }
+
+abbrev pub query_of : QueryPart → Query
+query_of q = record { code = q.code; script = q.script }
+
+abbrev pub controller_of : ControllerPart → ControllerDesc
+controller_of c = record { event = c.event; silent = c.silent; fickle = c.fickle; queries = map query_of c.queries }
+
+-- the machine that parts describe
+abbrev pub described : MachineParts → MachineData
+described p = record {
+  version = p.version;
+  gpe0 = p.gpe0;
+  base1 = p.base1;
+  gpe1 = p.gpe1;
+  workers = p.workers;
+  regions = map region_of p.regions;
+  fields = map (field_of p.regions) p.fields;
+  events = map listed_of p.events;
+  controller = option_map controller_of p.controller;
+  firmware = p.firmware;
+  devices = p.devices;
+  schedule = p.schedule;
+}

@@ -1,46 +1,20 @@
-//! Laws of the comparisons: `==` is true exactly where the two values are the same.
-ghost use Rattle.std.specs.Prelude.{◌≡◌, ◌↔◌, IsTrue};
+//! Laws of the comparisons: facts for the proofs of the crates above, which cost nothing to call.
+ghost use Rattle.acpi_regs.specs.Comparisons.{IsExact};
+ghost use Rattle.machine_desc.specs.contracts.fault.BadMachinePartialEq.TheImpl as bad_machine_eq;
+ghost use Rattle.machine_desc.specs.contracts.fault.MachineErrorPartialEq.TheImpl as machine_error_eq;
+ghost use Rattle.machine_desc.specs.contracts.fault.PartPartialEq.TheImpl as part_eq;
+ghost use Rattle.machine_desc.specs.contracts.fault.PlacePartialEq.TheImpl as place_eq;
+ghost use Rattle.machine_desc.specs.contracts.fault.RulePartialEq.TheImpl as rule_eq;
+ghost use Rattle.machine_desc.specs.contracts.fault.SpotPartialEq.TheImpl as spot_eq;
 
-use crate::{Act, FieldPart, MachineError, Op, RegionKind, UpdateRule};
+use crate::{BadMachine, MachineError, Part, Place, Rule, Spot};
 
-/// Refusals of a machine are equal exactly where they are the same.
-pub fn law_machine_errors_equal(one: &MachineError, other: &MachineError) -> bool
-    ensures { IsTrue result ↔ (one.now ≡ other.now) }
-{
-    one == other
-}
-
-/// Kinds of regions are equal exactly where they are the same.
-pub fn law_region_kinds_equal(one: &RegionKind, other: &RegionKind) -> bool
-    ensures { IsTrue result ↔ (one.now ≡ other.now) }
-{
-    one == other
-}
-
-/// Update rules are equal exactly where they are the same.
-pub fn law_update_rules_equal(one: &UpdateRule, other: &UpdateRule) -> bool
-    ensures { IsTrue result ↔ (one.now ≡ other.now) }
-{
-    one == other
-}
-
-/// Fields are equal exactly where they are the same.
-pub fn law_fields_equal(one: &FieldPart, other: &FieldPart) -> bool
-    ensures { IsTrue result ↔ (one.now ≡ other.now) }
-{
-    one == other
-}
-
-/// Operations are equal exactly where they are the same.
-pub fn law_ops_equal(one: &Op, other: &Op) -> bool
-    ensures { IsTrue result ↔ (one.now ≡ other.now) }
-{
-    one == other
-}
-
-/// Acts are equal exactly where they are the same.
-pub fn law_acts_equal(one: &Act, other: &Act) -> bool
-    ensures { IsTrue result ↔ (one.now ≡ other.now) }
-{
-    one == other
-}
+/// Two values are `==` exactly where they are the same.
+pub fn law_equality()
+    ensures rule { IsExact Rule (rule_eq.ghosts).eq }
+    ensures part { IsExact Part (part_eq.ghosts).eq }
+    ensures place { IsExact Place (place_eq.ghosts).eq }
+    ensures bad_machine { IsExact BadMachine (bad_machine_eq.ghosts).eq }
+    ensures spot { IsExact Spot (spot_eq.ghosts).eq }
+    ensures machine_error { IsExact MachineError (machine_error_eq.ghosts).eq }
+{}

@@ -1,23 +1,33 @@
-//! A whole machine as its description gives it, with the rules that it obeys.
+//! A whole machine as its description gives it, with the rules that it keeps.
 //!
-//! It stands on `acpi_regs`. [`Machine::new`] takes the parts that a reader found and accepts them exactly where
-//! the rules of `specs/Rules.antt` hold; from then on contracts see a machine as plain data (`specs/Machine.antt`).
-//! What a script means, act by act, is `specs/Plan.antt`. The laws in [`laws`] say that values which compare as equal
-//! are equal.
-//!
-//! Machines of the first form are built today: one memory region at most, whole bytes as fields, and one firmware
-//! script at most, which reads and writes them.
+//! The crate stands on `acpi_regs`, `field_units` and `handler_script`. [`Machine::new`] takes the parts that a reader found
+//! and accepts them exactly where they break no rule of `specs/Rules.antt`; else it tells the first that is broken, and where.
+//! From then on contracts see a machine as plain data (`specs/Machine.antt`).
 #![tactic(auto)]
 
+mod build;
+mod copy;
+mod cost;
+mod fault;
+mod given;
+mod items;
+mod items_rules;
+mod known;
 pub mod laws;
+mod lists;
 mod machine;
 mod parts;
 mod rules;
-mod script;
+mod scripted;
+mod served;
+mod space;
+mod tally;
+mod weight;
 
-pub use machine::{Machine, MachineError};
-pub use parts::{Cells, FieldPart, MachineParts, Region, RegionKind, RegionPart, UpdateRule};
-pub use script::{Act, Op, Script};
+pub use fault::{BadMachine, MachineError, Part, Place, Rule, Spot};
+pub use items::Items;
+pub use machine::{ControllerDesc, ListedEvent, Machine, Query};
+pub use parts::{ControllerPart, EventPart, FieldPart, MachineParts, QueryPart, RegionPart};
 
 #[cfg(test)]
 mod tests;

@@ -1,135 +1,313 @@
-ghost use Rattle.std.specs.Prelude.{◌≡◌, ◌<◌, IsTrue, IfOk, IsErrOf, Some, None, map};
-ghost use Rattle.std.specs.List.{list_all};
-ghost use Rattle.machine_desc.specs.Rules.{fits, is_machine, machine_of};
-ghost use Rattle.machine_desc.specs.Machine.{weight_of, region_of};
+ghost use Rattle.std.specs.Prelude.{◌≡◌, ◌<◌, ◌≤◌, ◌^◌, None, Some, IfOk, length, slice_get};
+ghost use Rattle.std.specs.Option.{option_copied, option_map};
+ghost use Rattle.machine_desc.specs.Actors.{actors_of};
+ghost use Rattle.machine_desc.specs.Answers.{Answers};
+ghost use Rattle.machine_desc.specs.Given.{IsDescribed, IsGiven};
+ghost use Rattle.machine_desc.specs.Kept.{IsMachine};
+ghost use Rattle.machine_desc.specs.Machine.{controller_of, described};
+ghost use Rattle.machine_desc.specs.Rules.{first_fault};
+ghost use Rattle.machine_desc.specs.Sound.{AreSound, AreSoundQueries};
+ghost use Rattle.machine_desc.specs.Weight.{weight_of};
 
-use crate::{FieldPart, MachineParts, Region, RegionPart, Script, rules};
-use acpi_regs::Memory;
+use crate::build::{events_of, fields_of, queries_of, regions_of, scripts_of};
+use crate::copy::{
+    controller_copied, devices_copied, events_copied, firmware_copied, regions_copied,
+};
+use crate::rules::first_fault;
+use crate::weight::weight_of;
+use crate::{ControllerPart, Items, MachineError, MachineParts, served};
+use acpi_regs::{Actor, Event, Listed, Memory};
+use field_units::{FieldUnit, Region};
+use handler_script::Script;
 use std::alloc::Global;
 use std::marker::Model;
 
-/// Why no machine was made of a description's parts.
-#[derive(Debug, Drop, PartialEq)]
-pub enum MachineError {
-    /// The parts obey not all rules of the first form, the only one that is built today.
-    NotBuilt,
-    /// Memory ran out.
-    Memory,
+/// An event that has a handler.
+#[derive(Debug, Drop)]
+pub struct ListedEvent {
+    /// The event, its kind, and the count of references with which it starts.
+    pub listed: Listed,
+    /// Its handler.
+    pub script: Script,
 }
 
-impl From<Memory> for MachineError {
-    ghost use Rattle.std.specs.Prelude.{◌≡◌};
-    ghost use Rattle.machine_desc.specs.declared.machine.MachineError.TheVariants as error;
-
-    ghost from_gives = { λ _ e. e ≡ error.Memory };
-
-    fn from(_: Memory) -> Self {
-        MachineError::Memory
-    }
+/// The handler of a query code (ACPI 6.5, section 5.6.4.1.3).
+#[derive(Debug, Drop)]
+pub struct Query {
+    /// The code, from 1 to 255.
+    pub code: u8,
+    /// Its handler.
+    pub script: Script,
 }
 
-/// A machine that obeys the rules of its description.
+/// An embedded controller (ACPI 6.5, chapter 12).
+#[derive(Debug, Drop)]
+pub struct ControllerDesc {
+    /// The event that it raises, a GPE.
+    pub event: Event,
+    /// Whether it raises the event for query codes alone.
+    pub silent: bool,
+    /// Whether it may leave burst mode of its own accord.
+    pub fickle: bool,
+    /// The handlers of its query codes.
+    pub queries: Items<Query>,
+}
+
+/// A machine that keeps every rule of a description. Contracts see it as plain data.
 #[derive(Debug, Drop)]
 pub struct Machine {
-    regions: Vec<Region>,
-    fields: Vec<FieldPart>,
-    firmware: Vec<Script>,
+    version: u8,
+    gpe0: u16,
+    base1: u16,
+    gpe1: u16,
+    workers: u8,
+    regions: Items<Region>,
+    fields: Items<FieldUnit>,
+    events: Items<ListedEvent>,
+    controller: Option<ControllerDesc>,
+    firmware: Items<Script>,
+    devices: Items<Items<Event>>,
+    schedule: Items<Actor>,
 }
 
 impl Model for Machine {
-    ghost use Rattle.std.specs.Prelude.{IsTrue};
     ghost use Rattle.machine_desc.specs.Machine.{MachineData};
-    ghost use Rattle.machine_desc.specs.Rules.{is_machine};
 
     ghost Value = { MachineData };
 
+    ghost use Rattle.machine_desc.specs.Given.{IsDescribed};
+
     ghost view = { λ m. record {
-      regions = m.regions.items;
-      fields = m.fields.items;
-      firmware = m.firmware.items;
+      version = m.version;
+      gpe0 = m.gpe0;
+      base1 = m.base1;
+      gpe1 = m.gpe1;
+      workers = m.workers;
+      regions = m.regions;
+      fields = m.fields;
+      events = m.events;
+      controller = m.controller;
+      firmware = m.firmware;
+      devices = m.devices;
+      schedule = m.schedule;
     } };
 
-    ghost invariant = { λ m. IsTrue (is_machine (record {
-      regions = m.regions.items;
-      fields = m.fields.items;
-      firmware = m.firmware.items;
-    })) };
+    ghost invariant = { λ m. IsDescribed (record {
+      version = m.version;
+      gpe0 = m.gpe0;
+      base1 = m.base1;
+      gpe1 = m.gpe1;
+      workers = m.workers;
+      regions = m.regions;
+      fields = m.fields;
+      events = m.events;
+      controller = m.controller;
+      firmware = m.firmware;
+      devices = m.devices;
+      schedule = m.schedule;
+    }) };
 }
 
 impl Machine {
     /// The machine that these parts describe.
     ///
-    /// Answers `NotBuilt` exactly where the parts obey not all rules, and `Memory` only where they do and room for the
-    /// cells was wanting.
+    /// # Errors
+    /// `BadMachine` exactly where the parts break a rule, with the first, in the order told at [`crate::Part`]. `Memory`
+    /// where they break none and room for the machine was wanting.
     pub fn new(alloc: Global, parts: MachineParts) -> Result<Machine, MachineError>
-        ensures ok { IfOk result (λ m. machine_of parts ≡ Some m) }
-        ensures refused { machine_of parts ≡ None → IsErrOf result MachineError.NotBuilt }
-        ensures not_built { IsErrOf result MachineError.NotBuilt → machine_of parts ≡ None }
+        requires { IsGiven parts }
+        ensures { Answers parts result }
     {
-        if !rules::all_fit(&parts.regions)
-            || !rules::is_machine(&parts.regions, &parts.fields, &parts.firmware)
-        {
-            return Err(MachineError::NotBuilt);
+        match first_fault(&parts) {
+            Some(bad) => Err(MachineError::BadMachine(bad)),
+            None => Ok(machine_of(alloc, parts)?),
         }
-        let regions = padded_regions(alloc, parts.regions)?;
-        Ok(Machine {
-            regions,
-            fields: parts.fields,
-            firmware: parts.firmware,
-        })
+    }
+
+    /// The version of the description, 1.
+    pub fn version(&self) -> u8
+        ensures { result ≡ self.now.version }
+    {
+        self.version
+    }
+
+    /// How many bytes the first GPE block has (ACPI 6.5, section 4.8.4.1).
+    pub fn gpe0(&self) -> u16
+        ensures { result ≡ self.now.gpe0 }
+    {
+        self.gpe0
+    }
+
+    /// The number of the first event of the second GPE block.
+    pub fn base1(&self) -> u16
+        ensures { result ≡ self.now.base1 }
+    {
+        self.base1
+    }
+
+    /// How many bytes the second GPE block has; 0 where there is none.
+    pub fn gpe1(&self) -> u16
+        ensures { result ≡ self.now.gpe1 }
+    {
+        self.gpe1
+    }
+
+    /// How many threads of the OS run jobs, from 1 to 4.
+    pub fn workers(&self) -> u8
+        ensures { result ≡ self.now.workers }
+    {
+        self.workers
     }
 
     /// The regions, in the description's order.
     pub fn regions(&self) -> &[Region]
         ensures { result.now ≡ self.now.regions }
     {
-        &self.regions
+        self.regions.as_slice()
     }
 
     /// The fields, in the description's order.
-    pub fn fields(&self) -> &[FieldPart]
+    pub fn fields(&self) -> &[FieldUnit]
         ensures { result.now ≡ self.now.fields }
     {
-        &self.fields
+        self.fields.as_slice()
+    }
+
+    /// The events that have a handler, in the description's order.
+    pub fn events(&self) -> &[ListedEvent]
+        ensures { result.now ≡ self.now.events }
+    {
+        self.events.as_slice()
+    }
+
+    /// The embedded controller, where there is one.
+    pub fn controller(&self) -> Option<&ControllerDesc>
+        ensures { option_copied result ≡ self.now.controller }
+    {
+        self.controller.as_ref()
     }
 
     /// The firmware's scripts, in the description's order.
     pub fn firmware(&self) -> &[Script]
         ensures { result.now ≡ self.now.firmware }
     {
-        &self.firmware
+        self.firmware.as_slice()
+    }
+
+    /// The events that each device raises, in order.
+    pub fn devices(&self) -> &[Items<Event>]
+        ensures { result.now ≡ self.now.devices }
+    {
+        self.devices.as_slice()
+    }
+
+    /// The actors that make the first steps, in order.
+    pub fn schedule(&self) -> &[Actor]
+        ensures { result.now ≡ self.now.schedule }
+    {
+        self.schedule.as_slice()
     }
 
     /// At most how many entries a history of this machine can have.
     pub fn weight(&self) -> u64
-        ensures { result ≡ weight_of self.now }
+        ensures value { result ≡ weight_of self.now }
+        ensures small { result < 2 ^ 54 }
     {
-        match self.firmware.first() {
-            Some(script) => script.ops().len() as u64,
-            None => 0,
-        }
+        weight_of(self)
     }
 
-    /// A machine obeys the rules of its description. The call has no cost: it says so to a caller's proof.
-    pub fn law_rules(&self)
-        ensures { IsTrue (is_machine self.now) }
+    /// How many actors the machine has, at most 23.
+    pub fn actors(&self) -> u8
+        ensures value { result ≡ length (actors_of self.now) }
+        ensures small { result ≤ 23 }
     {
-        let _regions = &self.regions;
+        served::count(self)
+    }
+
+    /// The actor at place `k` of the order in which actors are served, for `k` below their number.
+    pub fn actor(&self, k: u8) -> Actor
+        requires { k < length (actors_of self.now) }
+        ensures { slice_get (actors_of self.now) k ≡ Some result }
+    {
+        served::actor(self, k)
+    }
+
+    /// An equal machine, or want of memory.
+    pub fn copied(&self, alloc: Global) -> Result<Machine, Memory>
+        ensures { IfOk result (λ machine. machine ≡ self.now) }
+    {
+        let fields = Items::new(Vec::from_slice(alloc, self.fields())?);
+        let schedule = Items::new(Vec::from_slice(alloc, self.schedule())?);
+        Ok(Machine {
+            version: self.version,
+            gpe0: self.gpe0,
+            base1: self.base1,
+            gpe1: self.gpe1,
+            workers: self.workers,
+            regions: regions_copied(alloc, self.regions())?,
+            fields,
+            events: events_copied(alloc, self)?,
+            controller: controller_copied(alloc, self)?,
+            firmware: firmware_copied(alloc, self)?,
+            devices: devices_copied(alloc, self.devices())?,
+            schedule,
+        })
+    }
+
+    /// Some parts describe the machine and break no rule. The call costs nothing: it says so to a caller's proof.
+    pub fn law_described(&self)
+        ensures { IsDescribed self.now }
+    {
+        let _version = self.version;
+    }
+
+    /// A machine keeps every rule. The call costs nothing: it says so to a caller's proof.
+    pub fn law_rules(&self)
+        ensures { IsMachine self.now }
+    {
+        let _version = self.version;
     }
 }
 
-/// The regions that the parts describe, each with zeros behind its bytes.
-fn padded_regions(alloc: Global, parts: Vec<RegionPart>) -> Result<Vec<Region>, Memory>
-    requires { IsTrue (list_all fits parts.items) }
-    ensures { IfOk result (λ regions. regions.items ≡ map region_of parts.items) }
+/// The controller that a part describes.
+fn controller_of(
+    alloc: Global,
+    part: Option<ControllerPart>,
+) -> Result<Option<ControllerDesc>, Memory>
+    requires { AreSoundQueries part }
+    ensures { IfOk result (λ controller. controller ≡ option_map controller_of part) }
 {
-    let mut regions = Vec::with_capacity(alloc, parts.len())?;
-    for part in parts {
-        let cells = part.bytes.padded(usize::from(part.len))?;
-        regions.push(Region {
-            kind: part.kind,
-            cells,
-        })?;
-    }
-    Ok(regions)
+    let Some(part) = part else {
+        return Ok(None);
+    };
+    Ok(Some(ControllerDesc {
+        event: part.event,
+        silent: part.silent,
+        fickle: part.fickle,
+        queries: queries_of(alloc, part.queries.into_vec())?,
+    }))
+}
+
+/// The machine that parts describe which break no rule.
+fn machine_of(alloc: Global, parts: MachineParts) -> Result<Machine, Memory>
+    requires given { IsGiven parts }
+    requires kept { first_fault parts ≡ None }
+    requires sound { AreSound parts }
+    ensures { IfOk result (λ machine. machine ≡ described parts) }
+{
+    let fields = fields_of(alloc, parts.regions.as_slice(), parts.fields.as_slice())?;
+    Ok(Machine {
+        version: parts.version,
+        gpe0: parts.gpe0,
+        base1: parts.base1,
+        gpe1: parts.gpe1,
+        workers: parts.workers,
+        regions: regions_of(alloc, parts.regions.into_vec())?,
+        fields,
+        events: events_of(alloc, parts.events.into_vec())?,
+        controller: controller_of(alloc, parts.controller)?,
+        firmware: scripts_of(alloc, parts.firmware.into_vec())?,
+        devices: parts.devices,
+        schedule: parts.schedule,
+    })
 }

@@ -1,85 +1,66 @@
-ghost use Rattle.std.specs.Prelude.{◌≡◌, ◌/◌, ◌^◌, ◌<◌, ◌≤◌, ◌-◌, ◌++◌, List, ℕ, length, replicate, IfOk};
-ghost use Rattle.machine_desc.specs.Parts.{cell_of};
+ghost use Rattle.std.specs.Prelude.{◌↔◌, IsTrue};
+ghost use Rattle.machine_desc.specs.Given.{IsGiven};
 
-use crate::Script;
-use acpi_regs::{Cell, Memory};
-use std::marker::Model;
+use crate::Items;
+use crate::given::is_given;
+use acpi_regs::{Actor, Event};
+use field_units::{RegionKind, UpdateRule};
+use handler_script::Op;
 
-/// What stands behind a region's cells (ACPI 6.5, section 5.5.2.4).
-#[derive(Clone, Copy, Debug, PartialEq)]
-pub enum RegionKind {
-    /// Plain memory.
-    Memory,
-    /// The address space of the embedded controller.
-    Controller,
-}
-
-/// What becomes of the other bits of a byte when a field in it is written (ACPI 6.5, section 19.6.48).
-#[derive(Clone, Copy, Debug, PartialEq)]
-pub enum UpdateRule {
-    Preserve,
-    WriteAsOnes,
-    WriteAsZeros,
-}
-
-/// Bytes in a row, which contracts see as the list of them.
+/// What a description says, with no rule tested.
 #[derive(Debug, Drop)]
-pub struct Cells {
-    bytes: Vec<u8>,
+pub struct MachineParts {
+    /// The version of the description, which is 1.
+    pub version: u8,
+    /// How many bytes the first GPE block has (ACPI 6.5, section 4.8.4.1).
+    pub gpe0: u16,
+    /// The number of the first event of the second GPE block.
+    pub base1: u16,
+    /// How many bytes the second GPE block has; 0 where there is none.
+    pub gpe1: u16,
+    /// How many threads of the OS run jobs.
+    pub workers: u8,
+    /// The regions.
+    pub regions: Items<RegionPart>,
+    /// The fields.
+    pub fields: Items<FieldPart>,
+    /// The events that have a handler.
+    pub events: Items<EventPart>,
+    /// The embedded controller, where there is one.
+    pub controller: Option<ControllerPart>,
+    /// The operations of each thread of the firmware.
+    pub firmware: Items<Items<Op>>,
+    /// The events that each device raises, in order.
+    pub devices: Items<Items<Event>>,
+    /// The actors that make the first steps, in order.
+    pub schedule: Items<Actor>,
 }
 
-impl Model for Cells {
-    ghost Value = { List ℕ };
-
-    ghost view = { λ c. c.bytes.items };
-}
-
-impl Cells {
-    /// These bytes.
-    pub fn new(bytes: Vec<u8>) -> Self
-        ensures { result ≡ bytes.items }
+impl MachineParts {
+    /// Whether the parts have the form that [`crate::Machine::new`] asks for: version 1, no listed event is the Global Lock's,
+    /// only GPEs are level-triggered, and no query code and no pushed code is 0.
+    pub fn is_given(&self) -> bool
+        ensures { IsTrue result ↔ IsGiven self.now }
     {
-        Cells { bytes }
-    }
-
-    /// The bytes as a slice.
-    pub fn as_slice(&self) -> &[u8]
-        ensures { result.now ≡ self.now }
-    {
-        &self.bytes
-    }
-
-    /// These bytes, with zeros behind them up to a length that is no smaller than theirs.
-    pub(crate) fn padded(self, len: usize) -> Result<Cells, Memory>
-        requires { length self ≤ len }
-        ensures { IfOk result (λ cells. cells ≡ self ++ replicate (len - length self) 0) }
-    {
-        let mut bytes = self.bytes;
-        bytes.resize(len, 0)?;
-        Ok(Cells { bytes })
+        is_given(self)
     }
 }
 
-/// A region as a description gives it: the first bytes are given, and the cells behind them are zero.
+/// A region (ACPI 6.5, section 5.5.2.4), of which the first bytes are given.
 #[derive(Debug, Drop)]
 pub struct RegionPart {
+    /// What stands behind its cells.
     pub kind: RegionKind,
-    /// How many cells the region has.
+    /// How many cells it has.
     pub len: u16,
-    pub bytes: Cells,
+    /// The bytes that the first cells begin with. The others begin with 0.
+    pub bytes: Items<u8>,
 }
 
-/// A region of a machine, with the byte that each cell begins with.
-#[derive(Debug, Drop)]
-pub struct Region {
-    pub kind: RegionKind,
-    pub cells: Cells,
-}
-
-/// A field: some bits of a region, and how they are accessed (ACPI 6.5, section 19.6.48).
-#[derive(Clone, Copy, Debug, PartialEq)]
+/// A field of a region (ACPI 6.5, section 19.6.48).
+#[derive(Clone, Copy, Debug)]
 pub struct FieldPart {
-    /// The place of its region in the description.
+    /// The index of its region in the description.
     pub region: u8,
     /// Its first bit, counted from the region's start.
     pub bit: u32,
@@ -87,26 +68,41 @@ pub struct FieldPart {
     pub width: u8,
     /// Whether an access needs the Global Lock.
     pub lock: bool,
+    /// What a write makes of the other bits of a byte.
     pub update: UpdateRule,
 }
 
-impl FieldPart {
-    /// The cell in which the field begins.
-    pub fn cell(&self) -> Cell
-        requires { self.now.bit / 8 < 2 ^ 16 }
-        ensures { result ≡ cell_of self.now }
-    {
-        Cell {
-            region: self.region,
-            offset: (self.bit / 8) as u16,
-        }
-    }
+/// An event that has a handler (ACPI 6.5, section 5.6.4.1).
+#[derive(Debug, Drop)]
+pub struct EventPart {
+    /// The event, which is not the Global Lock's.
+    pub event: Event,
+    /// Whether it is level-triggered, which only a GPE may be.
+    pub level: bool,
+    /// The count of references with which it starts.
+    pub refs: u16,
+    /// The operations of its handler.
+    pub script: Items<Op>,
 }
 
-/// What a reader found in a description, with no rule tested.
+/// An embedded controller (ACPI 6.5, chapter 12).
 #[derive(Debug, Drop)]
-pub struct MachineParts {
-    pub regions: Vec<RegionPart>,
-    pub fields: Vec<FieldPart>,
-    pub firmware: Vec<Script>,
+pub struct ControllerPart {
+    /// The event that it raises.
+    pub event: Event,
+    /// Whether it raises the event for query codes alone.
+    pub silent: bool,
+    /// Whether it may leave burst mode of its own accord.
+    pub fickle: bool,
+    /// The handlers of its query codes.
+    pub queries: Items<QueryPart>,
+}
+
+/// The handler of a query code (ACPI 6.5, section 5.6.4.1.3).
+#[derive(Debug, Drop)]
+pub struct QueryPart {
+    /// The code, from 1 to 255.
+    pub code: u8,
+    /// The operations of the handler.
+    pub script: Items<Op>,
 }

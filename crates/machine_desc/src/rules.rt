@@ -1,130 +1,114 @@
-//! The rules of a machine, one function for each definition of `specs/Rules.antt`.
-ghost use Rattle.std.specs.Prelude.{◌≡◌, ◌&&◌, length, map, nat_le, slice_get};
-ghost use Rattle.std.specs.List.{list_all};
-ghost use Rattle.machine_desc.specs.Machine.{described, region_of};
-ghost use Rattle.machine_desc.specs.Rules as rules;
+//! The rules of a description, part by part.
+ghost use Rattle.std.specs.Prelude.{◌≡◌};
+ghost use Rattle.acpi_regs.specs.GeometryParts.{blocks_of};
+ghost use Rattle.machine_desc.specs.Groups.{actors_fault, handlers_fault, space_fault};
+ghost use Rattle.machine_desc.specs.Rules.{event_of, first_fault, queries_of};
 
-use crate::{FieldPart, Op, RegionKind, RegionPart, Script};
+use crate::known::KnownEvents;
+use crate::lists::{Counts, devices_fault, schedule_fault};
+use crate::scripted::{controller_fault, events_fault, firmware_fault, queries_fault};
+use crate::space::{fields_fault, geometry_of, regions_fault, workers_fault};
+use crate::{BadMachine, ControllerPart, MachineParts, QueryPart};
+use acpi_regs::{Event, GpeGeometry};
 
-/// The greatest number of cells in a memory region.
-const MAX_CELLS: usize = 4096;
-
-/// The greatest number of fields.
-const MAX_FIELDS: usize = 256;
-
-/// The greatest number of operations in a script.
-const MAX_OPS: usize = 4096;
-
-/// Whether no more bytes are given than there are cells.
-fn fits(part: &RegionPart) -> bool
-    ensures { result ≡ rules.fits part.now }
+/// The controller's event.
+fn event_of(controller: &Option<ControllerPart>) -> Option<Event>
+    ensures { result ≡ event_of controller.now }
 {
-    part.bytes.as_slice().len() <= usize::from(part.len)
-}
-
-/// Whether no part gives more bytes than cells.
-pub fn all_fit(parts: &[RegionPart]) -> bool
-    ensures { result ≡ list_all rules.fits parts.now }
-{
-    parts.iter().all(fits)
-}
-
-/// How many cells the region of this part has: as many as are asked for, and no fewer than bytes are given.
-fn cells_of(part: &RegionPart) -> usize
-    ensures { result ≡ length (region_of part.now).cells }
-{
-    usize::from(part.len).max(part.bytes.as_slice().len())
-}
-
-/// Whether the part describes memory of 1 to 4,096 cells.
-fn is_region(part: &RegionPart) -> bool
-    ensures { result ≡ rules.is_region (region_of part.now) }
-{
-    let cells = cells_of(part);
-    matches!(part.kind, RegionKind::Memory) && 0 < cells && cells <= MAX_CELLS
-}
-
-/// Whether the field is a whole byte of the first region, which has this many cells, without the lock.
-fn is_field(cells: usize, field: &FieldPart) -> bool
-    ensures { result ≡ rules.is_field cells field.now }
-{
-    field.region == 0
-        && field.width == 8
-        && !field.lock
-        && field.bit % 8 == 0
-        && ((field.bit / 8) as usize) < cells
-}
-
-fn are_fields(cells: usize, fields: &[FieldPart]) -> bool
-    ensures { result ≡ list_all (rules.is_field cells) fields.now }
-{
-    fields.iter().all(|field| is_field(cells, field))
-}
-
-/// Whether the operation names one of this many fields.
-fn is_op(fields: usize, op: &Op) -> bool
-    ensures { result ≡ rules.is_op fields op.now }
-{
-    match *op {
-        Op::Read(field) | Op::Write(field, _) => usize::from(field) < fields,
+    match controller {
+        Some(controller) => Some(controller.event),
+        None => None,
     }
 }
 
-fn are_ops(fields: usize, ops: &[Op]) -> bool
-    ensures { result ≡ list_all (rules.is_op fields) ops.now }
+/// The handlers of the controller's queries.
+fn queries_of(controller: &Option<ControllerPart>) -> &[QueryPart]
+    ensures { result.now ≡ queries_of controller.now }
 {
-    ops.iter().all(|op| is_op(fields, op))
-}
-
-/// Whether the script has at most 4,096 operations, each on one of this many fields.
-fn is_script(fields: usize, script: &Script) -> bool
-    ensures { result ≡ rules.is_script fields script.now }
-{
-    let ops = script.ops();
-    ops.len() <= MAX_OPS && are_ops(fields, ops)
-}
-
-fn are_scripts(fields: usize, firmware: &[Script]) -> bool
-    ensures { result ≡ list_all (rules.is_script fields) firmware.now }
-{
-    firmware.iter().all(|script| is_script(fields, script))
-}
-
-/// How many cells the first region has.
-fn cells_in_first(parts: &[RegionPart]) -> usize
-    ensures { result ≡ rules.cells_in (slice_get (map region_of parts.now) 0) }
-{
-    match parts.first() {
-        Some(part) => cells_of(part),
-        None => 0,
+    match controller {
+        Some(controller) => controller.queries.as_slice(),
+        None => &[],
     }
 }
 
-fn are_regions(parts: &[RegionPart]) -> bool
-    ensures { result ≡ list_all (λ part. rules.is_region (region_of part)) parts.now }
+/// The first rule that workers, regions and fields break.
+fn space_fault(parts: &MachineParts) -> Option<BadMachine>
+    ensures { result ≡ space_fault parts.now }
 {
-    parts.iter().all(is_region)
-}
-
-/// Whether the parts describe one region at most, and each is memory of 1 to 4,096 cells.
-#[tactic(auto, using(crate::proofs::RuleFacts::all_described, crate::proofs::RuleFacts::count_described))]
-fn is_one_region(parts: &[RegionPart]) -> bool
-    ensures { result ≡ (nat_le (length (map region_of parts.now)) 1
-        && list_all rules.is_region (map region_of parts.now)) }
-{
-    if parts.len() > 1 {
-        return false;
+    let regions = parts.regions.as_slice();
+    let fault = workers_fault(parts.workers);
+    if fault.is_some() {
+        return fault;
     }
-    are_regions(parts)
+    let fault = regions_fault(parts.controller.is_some(), regions);
+    if fault.is_some() {
+        return fault;
+    }
+    fields_fault(regions, parts.fields.as_slice())
 }
 
-/// Whether all rules of a machine hold for what the parts describe.
-pub fn is_machine(regions: &[RegionPart], fields: &[FieldPart], firmware: &[Script]) -> bool
-    ensures { result ≡ rules.is_machine (described regions.now fields.now firmware.now) }
+/// The first rule that the handlers of the OS break.
+fn handlers_fault(parts: &MachineParts, geometry: GpeGeometry) -> Option<BadMachine>
+    ensures { result ≡ handlers_fault (blocks_of geometry) parts.now }
 {
-    is_one_region(regions)
-        && fields.len() <= MAX_FIELDS
-        && are_fields(cells_in_first(regions), fields)
-        && firmware.len() <= 1
-        && are_scripts(fields.len(), firmware)
+    let own = event_of(&parts.controller);
+    let events = parts.events.as_slice();
+    let fields = parts.fields.as_slice().len();
+    let fault = events_fault(geometry, own, fields, events);
+    if fault.is_some() {
+        return fault;
+    }
+    let fault = controller_fault(&geometry, own);
+    if fault.is_some() {
+        return fault;
+    }
+    let known = KnownEvents { events, own };
+    queries_fault(&known, fields, queries_of(&parts.controller))
+}
+
+/// The first rule that the firmware, the devices and the schedule break.
+fn actors_fault(parts: &MachineParts) -> Option<BadMachine>
+    ensures { result ≡ actors_fault parts.now }
+{
+    let firmware = parts.firmware.as_slice();
+    let devices = parts.devices.as_slice();
+    let known = KnownEvents {
+        events: parts.events.as_slice(),
+        own: event_of(&parts.controller),
+    };
+    let fault = firmware_fault(&known, parts.fields.as_slice().len(), firmware);
+    if fault.is_some() {
+        return fault;
+    }
+    let fault = devices_fault(&known, devices);
+    if fault.is_some() {
+        return fault;
+    }
+    let counts = Counts {
+        workers: usize::from(parts.workers),
+        controller: parts.controller.is_some(),
+        devices: devices.len(),
+        firmware: firmware.len(),
+    };
+    schedule_fault(&counts, parts.schedule.as_slice())
+}
+
+/// The first rule that the parts break.
+#[tactic(auto, using(crate::proofs::Groups::in_groups))]
+pub fn first_fault(parts: &MachineParts) -> Option<BadMachine>
+    ensures { result ≡ first_fault parts.now }
+{
+    let geometry = match geometry_of(parts.gpe0, parts.base1, parts.gpe1) {
+        Ok(geometry) => geometry,
+        Err(bad) => return Some(bad),
+    };
+    let fault = space_fault(parts);
+    if fault.is_some() {
+        return fault;
+    }
+    let fault = handlers_fault(parts, geometry);
+    if fault.is_some() {
+        return fault;
+    }
+    actors_fault(parts)
 }
