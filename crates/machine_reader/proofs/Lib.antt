@@ -1,0 +1,12 @@
+pub mod Walk
+pub mod Given
+pub mod Quotes
+pub mod Lists
+pub mod Pieces
+pub mod Zeros
+pub mod Outlines
+pub mod ReadBack
+pub mod Plain
+pub mod Trimmed
+pub mod RoundTrip
+pub mod Exact

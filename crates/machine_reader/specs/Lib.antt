@@ -1,0 +1,10 @@
+pub mod Names
+pub mod Reading
+pub mod Shape
+pub mod Description
+pub mod Faults
+pub mod Canonical
+pub mod Texts
+pub mod Ranges
+pub mod Parts
+pub mod Laws

@@ -1,0 +1,267 @@
+//! The parts of a description in a JSON value: one function for each definition of `specs/Shape.antt`.
+ghost use Rattle.std.specs.Prelude.{◌≡◌, All, IfOk};
+ghost use Rattle.serde_json.specs.View.{view};
+ghost use Rattle.machine_desc.specs.Given.{IsEventPart, IsGiven, IsQueryPart};
+ghost use Rattle.machine_reader.specs.Reading.{Reads};
+ghost use Rattle.machine_reader.specs.Shape as shape;
+
+use crate::names::{ListedName, QueryCode};
+use crate::path::ShapeFault;
+use crate::values::{Shaped, has_names, member};
+use machine_desc::{ControllerPart, EventPart, FieldPart, MachineParts, QueryPart, RegionPart};
+use serde_json::Value;
+use std::alloc::Global;
+
+/// The GPE blocks of a description.
+#[derive(Clone, Copy, Debug, PartialEq, Eq)]
+pub struct Blocks {
+    /// How many bytes the first block has.
+    pub gpe0: u16,
+    /// The number of the first event of the second block.
+    pub base1: u16,
+    /// How many bytes the second block has.
+    pub gpe1: u16,
+}
+
+/// The version of a description.
+#[derive(Clone, Copy, Debug, PartialEq, Eq)]
+pub struct Version {
+    /// Its number, which is 1.
+    pub number: u8,
+}
+
+fn blocks_members(alloc: Global, value: &Value) -> Result<Blocks, ShapeFault>
+    ensures { Reads (λ x. x) (shape.blocks_members (view value.now)) result }
+{
+    let gpe0 = member(alloc, "gpe0", value)?;
+    let base1 = member(alloc, "base1", value)?;
+    let gpe1 = member(alloc, "gpe1", value)?;
+    Ok(Blocks { gpe0, base1, gpe1 })
+}
+
+impl Shaped for Blocks {
+    ghost use Rattle.machine_reader.specs.Shape.{blocks_shape};
+
+    ghost shape = { blocks_shape };
+
+    ghost Given = { λ _. Unit {0} };
+
+    fn read(alloc: Global, value: &Value) -> Result<Self, ShapeFault> {
+        if !has_names(&["gpe0", "base1", "gpe1"], value) {
+            return Err(ShapeFault::here(alloc));
+        }
+        blocks_members(alloc, value)
+    }
+}
+
+fn region_members(alloc: Global, value: &Value) -> Result<RegionPart, ShapeFault>
+    ensures { Reads (λ x. x) (shape.region_members (view value.now)) result }
+{
+    let kind = member(alloc, "kind", value)?;
+    let len = member(alloc, "len", value)?;
+    let bytes = member(alloc, "bytes", value)?;
+    Ok(RegionPart { kind, len, bytes })
+}
+
+impl Shaped for RegionPart {
+    ghost use Rattle.machine_reader.specs.Shape.{region_shape};
+
+    ghost shape = { region_shape };
+
+    ghost Given = { λ _. Unit {0} };
+
+    fn read(alloc: Global, value: &Value) -> Result<Self, ShapeFault> {
+        if !has_names(&["kind", "len", "bytes"], value) {
+            return Err(ShapeFault::here(alloc));
+        }
+        region_members(alloc, value)
+    }
+}
+
+fn field_members(alloc: Global, value: &Value) -> Result<FieldPart, ShapeFault>
+    ensures { Reads (λ x. x) (shape.field_members (view value.now)) result }
+{
+    let region = member(alloc, "region", value)?;
+    let bit = member(alloc, "bit", value)?;
+    let width = member(alloc, "width", value)?;
+    let lock = member(alloc, "lock", value)?;
+    let update = member(alloc, "update", value)?;
+    Ok(FieldPart {
+        region,
+        bit,
+        width,
+        lock,
+        update,
+    })
+}
+
+impl Shaped for FieldPart {
+    ghost use Rattle.machine_reader.specs.Shape.{field_shape};
+
+    ghost shape = { field_shape };
+
+    ghost Given = { λ _. Unit {0} };
+
+    fn read(alloc: Global, value: &Value) -> Result<Self, ShapeFault> {
+        if !has_names(&["region", "bit", "width", "lock", "update"], value) {
+            return Err(ShapeFault::here(alloc));
+        }
+        field_members(alloc, value)
+    }
+}
+
+fn event_members(alloc: Global, value: &Value) -> Result<EventPart, ShapeFault>
+    ensures reads { Reads (λ x. x) (shape.event_members (view value.now)) result }
+    ensures given { IfOk result IsEventPart }
+{
+    let name: ListedName = member(alloc, "name", value)?;
+    let refs = member(alloc, "refs", value)?;
+    let script = member(alloc, "script", value)?;
+    Ok(EventPart {
+        event: name.event,
+        level: name.level,
+        refs,
+        script,
+    })
+}
+
+impl Shaped for EventPart {
+    ghost use Rattle.machine_desc.specs.Given.{IsEventPart};
+    ghost use Rattle.machine_reader.specs.Shape.{listed_event_shape};
+
+    ghost shape = { listed_event_shape };
+
+    ghost Given = { IsEventPart };
+
+    fn read(alloc: Global, value: &Value) -> Result<Self, ShapeFault> {
+        if !has_names(&["name", "refs", "script"], value) {
+            return Err(ShapeFault::here(alloc));
+        }
+        event_members(alloc, value)
+    }
+}
+
+fn query_members(alloc: Global, value: &Value) -> Result<QueryPart, ShapeFault>
+    ensures reads { Reads (λ x. x) (shape.query_members (view value.now)) result }
+    ensures given { IfOk result IsQueryPart }
+{
+    let name: QueryCode = member(alloc, "name", value)?;
+    let script = member(alloc, "script", value)?;
+    Ok(QueryPart {
+        code: name.code,
+        script,
+    })
+}
+
+impl Shaped for QueryPart {
+    ghost use Rattle.machine_desc.specs.Given.{IsQueryPart};
+    ghost use Rattle.machine_reader.specs.Shape.{query_shape};
+
+    ghost shape = { query_shape };
+
+    ghost Given = { IsQueryPart };
+
+    fn read(alloc: Global, value: &Value) -> Result<Self, ShapeFault> {
+        if !has_names(&["name", "script"], value) {
+            return Err(ShapeFault::here(alloc));
+        }
+        query_members(alloc, value)
+    }
+}
+
+fn controller_members(alloc: Global, value: &Value) -> Result<ControllerPart, ShapeFault>
+    ensures reads { Reads (λ x. x) (shape.controller_members (view value.now)) result }
+    ensures given { IfOk result (λ c. All IsQueryPart c.queries) }
+{
+    let event = member(alloc, "event", value)?;
+    let silent = member(alloc, "silent", value)?;
+    let fickle = member(alloc, "fickle", value)?;
+    let queries = member(alloc, "queries", value)?;
+    Ok(ControllerPart {
+        event,
+        silent,
+        fickle,
+        queries,
+    })
+}
+
+fn present_controller(alloc: Global, value: &Value) -> Result<ControllerPart, ShapeFault>
+    ensures reads { Reads (λ x. x) (shape.present_controller (view value.now)) result }
+    ensures given { IfOk result (λ c. All IsQueryPart c.queries) }
+{
+    if !has_names(&["event", "silent", "fickle", "queries"], value) {
+        return Err(ShapeFault::here(alloc));
+    }
+    controller_members(alloc, value)
+}
+
+impl Shaped for Option<ControllerPart> {
+    ghost use Rattle.machine_desc.specs.Given.{HasQueries};
+    ghost use Rattle.machine_reader.specs.Shape.{controller_shape};
+
+    ghost shape = { controller_shape };
+
+    ghost Given = { HasQueries };
+
+    fn read(alloc: Global, value: &Value) -> Result<Self, ShapeFault> {
+        if value.is_null() {
+            return Ok(None);
+        }
+        Ok(Some(present_controller(alloc, value)?))
+    }
+}
+
+fn description_members(alloc: Global, value: &Value) -> Result<MachineParts, ShapeFault>
+    ensures reads { Reads (λ x. x) (shape.description_members (view value.now)) result }
+    ensures given { IfOk result IsGiven }
+{
+    let version: Version = member(alloc, "version", value)?;
+    let gpe: Blocks = member(alloc, "gpe", value)?;
+    let workers = member(alloc, "workers", value)?;
+    let regions = member(alloc, "regions", value)?;
+    let fields = member(alloc, "fields", value)?;
+    let events = member(alloc, "events", value)?;
+    let controller = member(alloc, "controller", value)?;
+    let firmware = member(alloc, "firmware", value)?;
+    let devices = member(alloc, "devices", value)?;
+    let schedule = member(alloc, "schedule", value)?;
+    Ok(MachineParts {
+        version: version.number,
+        gpe0: gpe.gpe0,
+        base1: gpe.base1,
+        gpe1: gpe.gpe1,
+        workers,
+        regions,
+        fields,
+        events,
+        controller,
+        firmware,
+        devices,
+        schedule,
+    })
+}
+
+/// The names of a description.
+const NAMES: [&str; 10] = [
+    "version",
+    "gpe",
+    "workers",
+    "regions",
+    "fields",
+    "events",
+    "controller",
+    "firmware",
+    "devices",
+    "schedule",
+];
+
+/// The parts of a description.
+pub fn parts_in(alloc: Global, value: &Value) -> Result<MachineParts, ShapeFault>
+    ensures reads { Reads (λ x. x) (shape.shape (view value.now)) result }
+    ensures given { IfOk result IsGiven }
+{
+    if !has_names(&NAMES, value) {
+        return Err(ShapeFault::here(alloc));
+    }
+    description_members(alloc, value)
+}
