@@ -1,74 +1,106 @@
 -- What a board keeps stays true when an allowed entry is appended.
-use Rattle.std.proofs.Common.{ℕ, ◌+◌, ◌<◌, ◌≡◌, inl, inr, true, ◌&&◌, eqb, cond, List, [], ◌∷◌, ◌++◌, length, reverse, take, drop, get_or, slice_get, arith, refl, sym, ap, ◌∙◌, subst, add-one, length-append}
-use Rattle.std.proofs.Math.ListN.{length-set, drop_of_length-le}
-use Rattle.std.proofs.lemmas.List.{take_all, append-nil, reverse-append, get_or-set_same, get_or-set_other}
-use Rattle.std.proofs.lemmas.Bool.{cases_eq, eq-eqb, ne_eqb, and_right}
+use Rattle.std.proofs.Common.{ℕ, zero, suc, get_or, ◌<◌, ◌≤◌, ◌≡◌, Bool, true, false, cond, List, [], ◌∷◌, ◌++◌, length, map, reverse, slice_get, unwrap_or, Option, Some, None, MatchOption, is_some, refl, sym, ap, ◌∙◌, subst, arith}
+use Rattle.std.proofs.lemmas.List.{length-append, reverse-append}
 use Rattle.acpi_regs.specs.declared.actor.Actor.{Actor}
 use Rattle.acpi_regs.specs.declared.actor.Actor.TheVariants as actor
+use Rattle.acpi_regs.specs.declared.entry.Cell.{Cell}
 use Rattle.acpi_regs.specs.declared.entry.Deed.{Deed}
-use Rattle.acpi_regs.specs.declared.entry.Deed.TheVariants as deed
 use Rattle.acpi_regs.specs.declared.entry.Entry.{Entry}
 use Rattle.acpi_regs.specs.Actor.{same_actor}
-use Rattle.machine_desc.specs.Machine.{MachineData, script_of}
-use Rattle.machine_desc.specs.Plan.{plan}
-use Rattle.machine_desc.specs.Rules.{is_machine, cells_in}
-use Rattle.machine_core.specs.Board.{IsKept, bytes_after, WritesWithin}
+use Rattle.field_units.specs.Field.{RegionData}
+use Rattle.handler_script.specs.declared.act.Act.{Act}
+use Rattle.handler_script.specs.declared.cursor.Cursor.{Cursor}
+use Rattle.handler_script.specs.Acts.{brings}
+use Rattle.handler_script.specs.Plan.{Plan, next_act, plan_after}
+use Rattle.machine_desc.specs.Machine.{MachineData}
+use Rattle.machine_desc.specs.Kept.{IsMachine}
+use Rattle.machine_desc.specs.Weight.{weight_of}
+use Rattle.machine_core.specs.Board.{IsKept, Passing, Stand, left_by, left_of}
+use Rattle.machine_core.specs.Cells.{IsCell, IsIn, byte_at, byte_in, cells_in, first_byte, first_bytes}
 use Rattle.machine_core.specs.Legal.{Allowed, Legal, LegalPast}
-use Rattle.machine_core.specs.Scripts.{plan_after, plan_left}
-use Rattle.machine_core.specs.Values.{value_after, deed_access}
-use Rattle.machine_core.proofs.Steps.{Passes, IsInside, allowed_passes}
+use Rattle.machine_core.specs.Scripts.{answer_of, byte_answered, first_left, left_after, plan_left}
+use Rattle.machine_core.specs.Values.{deed_access, value_after}
+use Rattle.machine_core.proofs.Room.{weight_bounds}
+use Rattle.machine_core.proofs.Steps.{Passes, allowed_passes}
 
 -- the newest entry of a history is allowed
 pub newest_allowed : (m : MachineData) (entries : List Entry) (e : Entry) → Legal m (entries ++ e ∷ []) → Allowed m (reverse entries) e
 newest_allowed m entries e legal = (subst (LegalPast m) (reverse-append entries (e ∷ [])) legal).0
 
-pub kept_passes : (m : MachineData) (entries : List Entry) (bytes : List ℕ) (passed room : ℕ) (e : Entry) → is_machine m ≡ true → IsKept m entries bytes passed room → Legal m (entries ++ e ∷ []) → Passes m passed e.actor e.deed
-kept_passes m entries bytes passed room e ok kept legal =
-    allowed_passes m (reverse entries) passed e.actor e.deed ok kept.script (newest_allowed m entries e legal)
+-- an entry that is allowed passes the act that a cursor has next
+pub passing : (m : MachineData) (entries : List Entry) (cells : List (List ℕ)) (cursors : List Cursor) (room : ℕ) (e : Entry) → IsKept m entries cells cursors room → Allowed m (reverse entries) e → Passing m cursors e.actor e.deed
+passing m entries cells cursors room e kept allowed =
+    let p = allowed_passes m (reverse entries) e.actor e.deed allowed in
+    let j = p.firmware.number in
+    let here : left_of m cursors j ≡ plan_left m (reverse entries) e.actor = kept.left_are j p.firmware.below ∙ ap (plan_left m (reverse entries)) (sym p.firmware.is) in
+    let next : next_act (left_of m cursors j) ≡ Some p.does = ap next_act (here ∙ p.is) in
+    subst (λ a. Passing m cursors a e.deed) (sym p.firmware.is)
+    (p.firmware.below, subst (λ o. MatchOption o ⊥ (λ a. is_some (byte_answered e.deed) ≡ brings a)) (sym next) p.brought)
 
-pub writes_within : (m : MachineData) (d : Deed) (cells : ℕ) → IsInside m d → cells ≡ cells_in (slice_get m.regions 0) → WritesWithin d cells
-writes_within m (deed.Read c v) cells inside size = tt
-writes_within m (deed.Write c v) cells inside size = rw size inside.1
-writes_within m _ cells inside size = tt
-
-pub length-bytes_after : (d : Deed) (bytes : List ℕ) → length (bytes_after d bytes) ≡ length bytes
-length-bytes_after (deed.Write c v) bytes = length-set bytes c.offset v
-length-bytes_after _ bytes = refl
-
--- the byte of a cell of the first region after an entry
-bytes_after-value : (m : MachineData) (d : Deed) (a : Actor) (bytes : List ℕ) (offset old : ℕ) → IsInside m d → offset < length bytes → get_or bytes offset 0 ≡ old → get_or (bytes_after d bytes) offset 0 ≡ value_after (record { region = 0; offset = offset }) (deed_access a d) old
-bytes_after-value m (deed.Read c v) a bytes offset old inside below same = same
-bytes_after-value m (deed.Write c v) a bytes offset old inside below same =
-    elim (cases_eq c.offset offset) [
-      | inl here ↦ rw (same_cell-here here, here, get_or-set_same bytes offset v 0 below) refl
-      | inr other ↦ rw (and_right (eqb c.region 0) (eqb c.offset offset) (ne_eqb _ _ other), get_or-set_other bytes c.offset offset v 0 (λ e. other (sym e))) same
-    ]
+-- what is left by an entry is what the definition says
+left_is : (m : MachineData) (past : List Entry) (e : Entry) → Passes m past e.actor e.deed → (k : ℕ) (p : Plan) → p ≡ plan_left m past (actor.Firmware k) → left_by e k p ≡ plan_left m (e ∷ past) (actor.Firmware k)
+left_is m past e p k q is = by_actor (same_actor (actor.Firmware k) e.actor)
   where
-    same_cell-here : c.offset ≡ offset → (eqb c.region 0 && eqb c.offset offset) ≡ true
-    same_cell-here here = rw (inside.0, here) (eq-eqb offset offset refl)
-bytes_after-value m _ a bytes offset old inside below same = absurd inside
+    after_is : plan_after (unwrap_or (byte_answered e.deed) 0) q ≡ left_after e.deed (plan_left m past (actor.Firmware k))
+    after_is = rw (p.passing, p.answer) (ap (plan_after (answer_of e.deed)) is)
 
-pub script_after : (m : MachineData) (past : List Entry) (passed : ℕ) (e : Entry) → Passes m passed e.actor e.deed → plan_left m past (actor.Firmware 0) ≡ plan m.fields (drop passed (script_of m 0)) → plan_left m (e ∷ past) (actor.Firmware 0) ≡ plan m.fields (drop (passed + 1) (script_of m 0))
-script_after m past passed e p script =
-    ap (λ a. cond (same_actor (actor.Firmware 0) a) (plan_after e.deed (plan_left m past (actor.Firmware 0))) (plan_left m past (actor.Firmware 0))) p.by_first ∙ (ap (plan_after e.deed) script ∙ (p.goes_on ∙ ap (λ n. plan m.fields (drop n (script_of m 0))) (sym (add-one passed))))
+    by_actor : (b : Bool) → cond b (plan_after (unwrap_or (byte_answered e.deed) 0) q) q ≡ cond b (left_after e.deed (plan_left m past (actor.Firmware k))) (plan_left m past (actor.Firmware k))
+    by_actor true = after_is
+    by_actor false = is
 
-pub kept_after : (m : MachineData) (entries : List Entry) (bytes : List ℕ) (passed room : ℕ) (e : Entry) → is_machine m ≡ true → IsKept m entries bytes passed room → Legal m (entries ++ e ∷ []) → IsKept m (entries ++ e ∷ []) (bytes_after e.deed bytes) (passed + 1) room
-kept_after m entries bytes passed room e ok kept legal =
-    let p = kept_passes m entries bytes passed room e ok kept legal in
+-- there is room for an entry that is allowed
+pub room_for : (m : MachineData) (entries : List Entry) (e : Entry) → IsMachine m → Legal m (entries ++ e ∷ []) → length entries < weight_of m
+room_for m entries e ok legal =
+    let most = weight_bounds m (entries ++ e ∷ []) ok legal in
+    let size = length-append entries (e ∷ []) in
+    omega arith
+
+pub kept_after : (m : MachineData) (entries : List Entry) (cells cells' : List (List ℕ)) (cursors cursors' : List Cursor) (room : ℕ) (e : Entry) → IsKept m entries cells cursors room → Legal m (entries ++ e ∷ [])
+    → ((c : Cell) → IsIn cells c → byte_in cells' c ≡ value_after c (deed_access e.actor e.deed) (byte_in cells c))
+    → ((c : Cell) → IsIn cells c → IsIn cells' c)
+    → Stand m cursors'
+    → ((k : ℕ) → left_of m cursors' k ≡ left_by e k (left_of m cursors k))
+    → IsKept m (entries ++ e ∷ []) cells' cursors' room
+kept_after m entries cells cells' cursors cursors' room e kept legal values stay stand left =
+    let allowed = newest_allowed m entries e legal in
+    let p = allowed_passes m (reverse entries) e.actor e.deed allowed in
     let newest : reverse (entries ++ e ∷ []) ≡ e ∷ reverse entries = reverse-append entries (e ∷ []) in
-    let same_length = length-bytes_after e.deed bytes in
-    let below = p.below in
-    let one_each = kept.one_each in
     record {
       legal = legal;
-      size = same_length ∙ kept.size;
-      bytes_last = λ offset inside. rw newest (bytes_after-value m e.deed e.actor bytes offset _ p.inside (omega arith) (kept.bytes_last offset (omega arith)));
-      script = rw newest (script_after m (reverse entries) passed e p kept.script);
-      one_each = rw length-append (ap (λ n. n + 1) one_each);
-      within = omega arith;
+      cells_in = λ c is. stay c (kept.cells_in c is);
+      cells_are = λ c is. rw newest (values c (kept.cells_in c is) ∙ ap (value_after c (deed_access e.actor e.deed)) (kept.cells_are c is));
+      stand = stand;
+      left_are = λ k below. rw newest (left k ∙ left_is m (reverse entries) e p k (left_of m cursors k) (kept.left_are k below));
       room_left = kept.room_left;
+      small = kept.small;
     }
 
--- a slice that was written in place of the whole of a Vec
-pub take-whole : (n : ℕ) (new old : List ℕ) → n ≡ length old → length new ≡ length old → take n (new ++ drop (length new) old) ≡ new
-take-whole n new old whole same = rw (drop_of_length-le old {i = length new} (omega arith), append-nil new) (take_all n new (omega arith))
+-- ---- at the start
+
+abbrev cells_of : Option RegionData → List ℕ
+cells_of None = []
+cells_of (Some region) = region.cells
+
+bytes_are : (regions : List RegionData) (r : ℕ) → unwrap_or (slice_get (map (λ region. region.cells) regions) r) [] ≡ cells_of (slice_get regions r)
+bytes_are [] r = refl
+bytes_are (region ∷ regions) zero = refl
+bytes_are (region ∷ regions) (suc r) = bytes_are regions r
+
+in_region : (o : Option RegionData) (offset : ℕ) → offset < cells_in o → offset < length (cells_of o)
+in_region None offset is = is
+in_region (Some region) offset is = is
+
+byte_of : (o : Option RegionData) (offset : ℕ) → get_or (cells_of o) offset 0 ≡ byte_at o offset
+byte_of None offset = refl
+byte_of (Some region) offset = refl
+
+pub kept_at_first : (m : MachineData) (cursors : List Cursor) (room : ℕ) → Stand m cursors → ((k : ℕ) → k < length m.firmware → left_of m cursors k ≡ first_left m k) → weight_of m ≤ room → room < 4294967296 → IsKept m [] (first_bytes m) cursors room
+kept_at_first m cursors room stand left room_left small = record {
+  legal = tt;
+  cells_in = λ c is. rw (bytes_are m.regions c.region) (in_region (slice_get m.regions c.region) c.offset is);
+  cells_are = λ c is. rw (bytes_are m.regions c.region) (byte_of (slice_get m.regions c.region) c.offset);
+  stand = stand;
+  left_are = left;
+  room_left = room_left;
+  small = small;
+}

@@ -1,32 +1,30 @@
--- In a legal history each script makes its acts once and in order, each read gives the last byte written, and the weight bounds the length.
-use Rattle.std.proofs.Common.{ℕ, ◌≡◌, Bool, true, false, List, [], ◌∷◌, ◌++◌, reverse, Some, Option, refl, sym, ap, ◌∙◌, subst, append_assoc}
+-- In a legal history each script makes its acts once and in order, and each read gives the last byte written.
+use Rattle.std.proofs.Common.{ℕ, ◌≡◌, Bool, true, false, cond, List, [], ◌∷◌, ◌++◌, reverse, Some, Option, refl, sym, ap, ◌∙◌, subst, append_assoc}
 use Rattle.std.specs.List.{filter_map}
 use Rattle.std.proofs.lemmas.List.{append-nil, reverse-reverse}
 use Rattle.std.proofs.lemmas.List.Elements.{filter-append, filter_map-append}
-use Rattle.std.proofs.lemmas.Bool.{and_parts, eqb-true, false≢true}
+use Rattle.std.proofs.lemmas.Bool.{eqb-true, false≢true}
 use Rattle.acpi_regs.specs.declared.actor.Actor.{Actor}
 use Rattle.acpi_regs.specs.declared.actor.Actor.TheVariants as actor
-use Rattle.acpi_regs.specs.declared.entry.Cell.{Cell}
 use Rattle.acpi_regs.specs.declared.entry.Deed.{Deed}
 use Rattle.acpi_regs.specs.declared.entry.Deed.TheVariants as deed
 use Rattle.acpi_regs.specs.declared.entry.Entry.{Entry}
 use Rattle.acpi_regs.specs.Actor.{same_actor}
 use Rattle.acpi_regs.specs.History.{entries_of, past_of}
-use Rattle.machine_desc.specs.declared.script.Act.{Act}
-use Rattle.machine_desc.specs.declared.script.Act.TheVariants as act
+use Rattle.handler_script.specs.declared.act.Act.{Act}
+use Rattle.handler_script.specs.declared.act.Act.TheVariants as act
+use Rattle.handler_script.specs.Acts.{brings}
+use Rattle.handler_script.specs.Plan.{Plan, Do, End, acts_of}
 use Rattle.machine_desc.specs.Machine.{MachineData}
-use Rattle.machine_desc.specs.Plan.{Plan, End, Do, next_act, acts_of}
-use Rattle.machine_core.specs.Complete.{Complete, ScriptsOnce, ReadsLast}
-use Rattle.machine_core.specs.Legal.{Allowed, LegalPast, Legal, conditions, is_read, is_write}
-use Rattle.machine_core.specs.Scripts.{first_plan, plan_left, plan_after, act_passed, byte_answered, acts_passed, answers}
-use Rattle.machine_core.specs.Values.{Access, deed_access, same_cell, value}
-use Rattle.machine_core.proofs.Each.{reverse-cons, legal-each}
-use Rattle.machine_core.proofs.Steps.{first_failing-none}
+use Rattle.machine_core.specs.declared.cells.Access.{Access}
+use Rattle.machine_core.specs.Complete.{Complete, ReadsLast, ScriptsOnce}
+use Rattle.machine_core.specs.Legal.{Allowed, Legal, LegalPast, conditions}
+use Rattle.machine_core.specs.Scripts.{act_passed, acts_passed, answers, byte_answered, first_plan, left_after, plan_left}
+use Rattle.machine_core.specs.Values.{deed_access, value}
+use Rattle.machine_core.proofs.Each.{legal-each, reverse-cons}
+use Rattle.machine_core.proofs.Steps.{first_failing-none, reads_next, same_actor-true, some-injective, writes_next}
 
 -- ---- reads
-
-pub some-injective : {X : Type 0} (x y : X) → Some x ≡ Some y → x ≡ y
-some-injective x y same = cc
 
 read_gives : (m : MachineData) (past : List Entry) (by : Actor) (d : Deed) (a : Access) → Allowed m past (record { actor = by; deed = d }) → deed_access by d ≡ Some a → a.writes ≡ false → a.byte ≡ value m past a.cell
 read_gives m past by (deed.Read c v) a allowed is reads =
@@ -40,36 +38,6 @@ pub reads_last : (m : MachineData) (history : List Entry) → Legal m history �
 reads_last m history legal = λ i e a at is reads. read_gives m (past_of history i) e.actor e.deed a (legal-each m history legal i e at) is reads
 
 -- ---- scripts
-
-same_actor-true : (a b : Actor) → same_actor a b ≡ true → a ≡ b
-same_actor-true actor.Int actor.Int same = refl
-same_actor-true actor.Poll actor.Poll same = refl
-same_actor-true (actor.Worker j) (actor.Worker k) same = ap actor.Worker (eqb-true j k same)
-same_actor-true actor.Ec actor.Ec same = refl
-same_actor-true (actor.Device j) (actor.Device k) same = ap actor.Device (eqb-true j k same)
-same_actor-true (actor.Firmware j) (actor.Firmware k) same = ap actor.Firmware (eqb-true j k same)
-same_actor-true _ _ same = cc
-
-abbrev cell_at : ℕ → ℕ → Cell
-cell_at region offset = record { region = region; offset = offset }
-
-pub same_cell-true : (c d : Cell) → same_cell c d ≡ true → c ≡ d
-same_cell-true c d same =
-    let parts = and_parts _ _ same in
-    ap (λ region. cell_at region c.offset) (eqb-true _ _ parts.0) ∙ ap (λ offset. cell_at d.region offset) (eqb-true _ _ parts.1)
-
--- a plan whose next act reads this cell
-reads_next : (p : Plan) (c : Cell) → is_read c (next_act p) ≡ true → (needs_lock : Bool) × (next : ℕ → Plan) × (p ≡ Do needs_lock (act.Read c) next)
-reads_next End c ok = cc
-reads_next (Do needs_lock (act.Read d) next) c ok = (needs_lock, next, ap (λ e. Do needs_lock (act.Read e) next) (sym (same_cell-true c d ok)))
-reads_next (Do needs_lock (act.Write d w) next) c ok = cc
-
-writes_next : (p : Plan) (c : Cell) (v : ℕ) → is_write c v (next_act p) ≡ true → (needs_lock : Bool) × (next : ℕ → Plan) × (p ≡ Do needs_lock (act.Write c v) next)
-writes_next End c v ok = cc
-writes_next (Do needs_lock (act.Read d) next) c v ok = cc
-writes_next (Do needs_lock (act.Write d w) next) c v ok =
-    let parts = and_parts _ _ ok in
-    (needs_lock, next, ap (λ e. Do needs_lock (act.Write e w) next) (sym (same_cell-true c d parts.0)) ∙ ap (λ x. Do needs_lock (act.Write c x) next) (sym (eqb-true v w parts.1)))
 
 -- the entries of an actor with one more entry, which is its own or another's
 entries_of-own : (past : List Entry) (e : Entry) (a : Actor) → same_actor a e.actor ≡ true → entries_of (reverse (e ∷ past)) a ≡ entries_of (reverse past) a ++ e ∷ []
@@ -86,22 +54,27 @@ act_made e = act_passed e.deed
 abbrev byte_brought : Entry → Option ℕ
 byte_brought e = byte_answered e.deed
 
+-- an act that is not answered with a byte goes on at once
+goes_on : (needs : Bool) (a : Act) (next : ℕ → Plan) (more : List ℕ) → brings a ≡ false → acts_of (Do needs a next) more ≡ a ∷ acts_of (next 0) more
+goes_on needs a next [] brings_none = rw brings_none refl
+goes_on needs a next (byte ∷ more) brings_none = rw brings_none refl
+
 -- one act more has passed
-passed_more : (m : MachineData) (past : List Entry) (by : Actor) (d : Deed) (start p : Plan) (answered : List ℕ) (passed : List Act) → Allowed m past (record { actor = by; deed = d }) → p ≡ plan_left m past by → ((bytes : List ℕ) → acts_of start (answered ++ bytes) ≡ passed ++ acts_of p bytes) → (more : List ℕ) → acts_of start ((answered ++ filter_map byte_answered (d ∷ [])) ++ more) ≡ (passed ++ filter_map act_passed (d ∷ [])) ++ acts_of (plan_after d p) more
+passed_more : (m : MachineData) (past : List Entry) (by : Actor) (d : Deed) (start p : Plan) (answered : List ℕ) (passed : List Act) → Allowed m past (record { actor = by; deed = d }) → p ≡ plan_left m past by → ((bytes : List ℕ) → acts_of start (answered ++ bytes) ≡ passed ++ acts_of p bytes) → (more : List ℕ) → acts_of start ((answered ++ filter_map byte_answered (d ∷ [])) ++ more) ≡ (passed ++ filter_map act_passed (d ∷ [])) ++ acts_of (left_after d p) more
 passed_more m past by (deed.Read c v) start p answered passed allowed is before more =
     let holds = first_failing-none (conditions m past by (deed.Read c v)) allowed in
-    let next = reads_next p c (subst (λ q. is_read c (next_act q) ≡ true) (sym is) holds.1.0) in
-    ap (acts_of start) (append_assoc answered (v ∷ []) more) ∙ (before (v ∷ more) ∙ seam next.0 next.1 next.2)
+    let shape = reads_next (plan_left m past by) c holds.1.0 in
+    ap (acts_of start) (append_assoc answered (v ∷ []) more) ∙ (before (v ∷ more) ∙ seam shape.0 shape.1 (is ∙ shape.2))
   where
-    seam : (needs_lock : Bool) (next : ℕ → Plan) → p ≡ Do needs_lock (act.Read c) next → passed ++ acts_of p (v ∷ more) ≡ (passed ++ act.Read c ∷ []) ++ acts_of (plan_after (deed.Read c v) p) more
-    seam needs_lock next shape = rw shape (sym (append_assoc passed (act.Read c ∷ []) (acts_of (next v) more)))
+    seam : (needs : Bool) (next : ℕ → Plan) → p ≡ Do needs (act.Read c) next → passed ++ acts_of p (v ∷ more) ≡ (passed ++ act.Read c ∷ []) ++ acts_of (left_after (deed.Read c v) p) more
+    seam needs next shape = rw shape (sym (append_assoc passed (act.Read c ∷ []) (acts_of (next v) more)))
 passed_more m past by (deed.Write c v) start p answered passed allowed is before more =
     let holds = first_failing-none (conditions m past by (deed.Write c v)) allowed in
-    let next = writes_next p c v (subst (λ q. is_write c v (next_act q) ≡ true) (sym is) holds.1.0) in
-    ap (acts_of start) (ap (λ bytes. bytes ++ more) (append-nil answered)) ∙ (before more ∙ seam next.0 next.1 next.2)
+    let shape = writes_next (plan_left m past by) c v holds.1.0 in
+    ap (acts_of start) (ap (λ bytes. bytes ++ more) (append-nil answered)) ∙ (before more ∙ seam shape.0 shape.1 (is ∙ shape.2))
   where
-    seam : (needs_lock : Bool) (next : ℕ → Plan) → p ≡ Do needs_lock (act.Write c v) next → passed ++ acts_of p more ≡ (passed ++ act.Write c v ∷ []) ++ acts_of (plan_after (deed.Write c v) p) more
-    seam needs_lock next shape = rw shape (sym (append_assoc passed (act.Write c v ∷ []) (acts_of (next 0) more)))
+    seam : (needs : Bool) (next : ℕ → Plan) → p ≡ Do needs (act.Write c v) next → passed ++ acts_of p more ≡ (passed ++ act.Write c v ∷ []) ++ acts_of (left_after (deed.Write c v) p) more
+    seam needs next shape = rw (shape, goes_on needs (act.Write c v) next more refl) (sym (append_assoc passed (act.Write c v ∷ []) (acts_of (next 0) more)))
 passed_more m past by _ start p answered passed allowed is before more = cc
 
 -- what the acts of a script are, once part of its answers are given

@@ -7,16 +7,17 @@ use Rattle.acpi_regs.specs.declared.entry.Cell.{Cell}
 use Rattle.acpi_regs.specs.declared.entry.Deed.{Deed}
 use Rattle.acpi_regs.specs.declared.entry.Deed.TheVariants as deed
 use Rattle.acpi_regs.specs.declared.entry.Entry.{Entry}
-use Rattle.machine_desc.specs.declared.script.Act.TheVariants as act
-use Rattle.machine_desc.specs.Machine.{MachineData, first_byte}
-use Rattle.machine_desc.specs.Plan.{Plan, End, Do, next_act, acts_of}
+use Rattle.handler_script.specs.Plan.{Plan, Do, End, acts_of, next_act}
+use Rattle.machine_desc.specs.Machine.{MachineData}
+use Rattle.machine_core.specs.declared.cells.Access.{Access}
+use Rattle.machine_core.specs.Cells.{first_byte}
 use Rattle.machine_core.specs.Legal.{Legal}
 use Rattle.machine_core.specs.Scripts.{first_plan, plan_left, acts_passed, answers}
 use Rattle.machine_core.specs.Sentences.{WritesAt, WritesLast, IsLastByte, IsFirstLeft}
-use Rattle.machine_core.specs.Values.{Access, deed_access, same_cell, value, value_after}
+use Rattle.machine_core.specs.Values.{deed_access, same_cell, value, value_after}
 use Rattle.machine_core.proofs.Each.{reverse-cons, slice_get-push, slice_get-append_left, slice_get-seam}
-use Rattle.machine_core.proofs.Next.{same_cell-refl}
-use Rattle.machine_core.proofs.Once.{acts_split, same_cell-true, some-injective}
+use Rattle.machine_core.proofs.Once.{acts_split}
+use Rattle.machine_core.proofs.Steps.{same_cell-refl, same_cell-true, some-injective}
 
 -- ---- the value of a cell
 
@@ -97,8 +98,7 @@ value_is_last m history c =
 
 first_of_plan : (p : Plan) → slice_get (acts_of p []) 0 ≡ next_act p
 first_of_plan End = refl
-first_of_plan (Do needs_lock (act.Read c) next) = refl
-first_of_plan (Do needs_lock (act.Write c v) next) = refl
+first_of_plan (Do needs a next) = refl
 
 pub next_is_first : (m : MachineData) (history : List Entry) (a : Actor) → Legal m history → IsFirstLeft m history a
 next_is_first m history a legal =

@@ -1,8 +1,6 @@
--- What one allowed entry does to the pieces of state that a board keeps.
-use Rattle.std.proofs.Common.{ℕ, ◌/◌, ◌%◌, ◌<◌, ◌≡◌, ◌⊎◌, inl, inr, zero, suc, Bool, true, false, List, [], ◌∷◌, length, drop, get_or, Option, Some, None, option_map, slice_get, cond, arith, refl, sym, ap, ◌∙◌, subst}
-use Rattle.std.proofs.Math.Seq.{drop-nil}
-use Rattle.std.proofs.lemmas.Bool.{and_parts, eqb-true, ltb-true}
-use Rattle.std.proofs.lemmas.Option.{slice_get-get_or, slice_get_within}
+-- What one allowed entry is: it passes the next act of a firmware of the machine.
+use Rattle.std.proofs.Common.{ℕ, ◌<◌, ◌≡◌, Bool, true, false, cond, eqb, List, [], ◌∷◌, length, slice_get, unwrap_or, Option, Some, None, is_some, refl, sym, ap, ◌∙◌, subst}
+use Rattle.std.proofs.lemmas.Bool.{and_from, and_parts, eq-eqb, eqb-true, ltb-true}
 use Rattle.acpi_regs.specs.declared.actor.Actor.{Actor}
 use Rattle.acpi_regs.specs.declared.actor.Actor.TheVariants as actor
 use Rattle.acpi_regs.specs.declared.entry.Cell.{Cell}
@@ -10,122 +8,20 @@ use Rattle.acpi_regs.specs.declared.entry.Deed.{Deed}
 use Rattle.acpi_regs.specs.declared.entry.Deed.TheVariants as deed
 use Rattle.acpi_regs.specs.declared.entry.Entry.{Entry}
 use Rattle.acpi_regs.specs.Actor.{same_actor}
-use Rattle.machine_desc.specs.declared.parts.FieldPart.{FieldPart}
-use Rattle.machine_desc.specs.declared.script.Act.{Act}
-use Rattle.machine_desc.specs.declared.script.Act.TheVariants as act
-use Rattle.machine_desc.specs.declared.script.Op.{Op}
-use Rattle.machine_desc.specs.declared.script.Op.TheVariants as op
-use Rattle.machine_desc.specs.Machine.{MachineData, script_of}
-use Rattle.machine_desc.specs.Parts.{cell_of}
-use Rattle.machine_desc.specs.Plan.{Plan, End, Do, plan, plan_op, next_act, read_field, write_field}
-use Rattle.machine_desc.specs.Rules.{is_machine, is_op, cells_in}
-use Rattle.machine_desc.proofs.RuleFacts.{field_in_first, field_or_in_first, cells_within, op_named, script_of-later}
+use Rattle.handler_script.specs.declared.act.Act.{Act}
+use Rattle.handler_script.specs.declared.act.Act.TheVariants as act
+use Rattle.handler_script.specs.Acts.{brings}
+use Rattle.handler_script.specs.Plan.{Plan, Do, End, next_act, plan_after}
+use Rattle.machine_desc.specs.Machine.{MachineData}
 use Rattle.machine_core.specs.declared.rule.LogRule.{LogRule}
-use Rattle.machine_core.specs.Board.{IsCell}
-use Rattle.machine_core.specs.Legal.{Allowed, conditions, first_failing, is_read, is_write}
-use Rattle.machine_core.specs.Scripts.{plan_after, plan_left, first_plan, next_of, cell_of_act}
+use Rattle.machine_core.specs.Legal.{Allowed, conditions, first_failing, is_read, is_write, runs_scripts}
+use Rattle.machine_core.specs.Scripts.{act_passed, answer_of, byte_answered, first_plan, left_after, next_of, passes, plan_left}
 use Rattle.machine_core.specs.Values.{same_cell}
 
--- ---- fields and their cells
+pub some-injective : {X : Type 0} (x y : X) → Some x ≡ Some y → x ≡ y
+some-injective x y same = cc
 
-pub small_field : (m : MachineData) (fields : List FieldPart) (f : ℕ) (d : FieldPart) → is_machine m ≡ true → fields ≡ m.fields → f < length m.fields → (get_or fields f d).bit / 8 < 65536
-small_field m fields f d ok same below =
-    rw same (let first = field_or_in_first m f d ok below in omega (arith, first.inside, cells_within m ok))
-
-cell_is_of : (m : MachineData) (c : Cell) → c.region ≡ 0 → c.offset < cells_in (slice_get m.regions 0) → IsCell m c
-cell_is_of m c region inside = rw region inside
-
-pub cell_of_field : (m : MachineData) (fields : List FieldPart) (f : ℕ) (d : FieldPart) (c : Cell) → is_machine m ≡ true → fields ≡ m.fields → f < length m.fields → c ≡ cell_of (get_or fields f d) → IsCell m c
-cell_of_field m fields f d c ok same below is =
-    let first = field_or_in_first m f d ok below in
-    rw (is, same) (rw first.region first.inside)
-
-pub cell_at_field : (fields named : List FieldPart) (f g : ℕ) (d : FieldPart) (c : Cell) → fields ≡ named → f ≡ g → g < length named → c ≡ cell_of (get_or fields f d) → option_map cell_of (slice_get named g) ≡ Some c
-cell_at_field fields named f g d c same at below is = rw (slice_get-get_or named g d below, is, same, at) refl
-
--- ---- actors
-
--- only the first firmware has a script
-pub cases_first : (a : Actor) → (a ≡ actor.Firmware 0) ⊎ (a ≡ actor.Firmware 0 → ⊥)
-cases_first actor.Int = inr (λ e. cc)
-cases_first actor.Poll = inr (λ e. cc)
-cases_first (actor.Worker k) = inr (λ e. cc)
-cases_first actor.Ec = inr (λ e. cc)
-cases_first (actor.Device k) = inr (λ e. cc)
-cases_first (actor.Firmware zero) = inl refl
-cases_first (actor.Firmware (suc k)) = inr (λ e. cc)
-
-first_plan-none : (m : MachineData) (a : Actor) → is_machine m ≡ true → (a ≡ actor.Firmware 0 → ⊥) → first_plan m a ≡ End
-first_plan-none m actor.Int ok other = refl
-first_plan-none m actor.Poll ok other = refl
-first_plan-none m (actor.Worker k) ok other = refl
-first_plan-none m actor.Ec ok other = refl
-first_plan-none m (actor.Device k) ok other = refl
-first_plan-none m (actor.Firmware zero) ok other = absurd (other refl)
-first_plan-none m (actor.Firmware (suc k)) ok other = ap (plan m.fields) (script_of-later m (suc k) ok (omega arith))
-
-plan_after-end : (d : Deed) → plan_after d End ≡ End
-plan_after-end (deed.Read c v) = refl
-plan_after-end (deed.Write c v) = refl
-plan_after-end _ = refl
-
--- who begins with nothing to do never has anything to do
-pub plan_left-end : (m : MachineData) (past : List Entry) (a : Actor) → first_plan m a ≡ End → plan_left m past a ≡ End
-plan_left-end m [] a none = none
-plan_left-end m (e ∷ past) a none = step (same_actor a e.actor) (plan_left-end m past a none)
-  where
-    step : (b : Bool) → plan_left m past a ≡ End → cond b (plan_after e.deed (plan_left m past a)) (plan_left m past a) ≡ End
-    step true rest = ap (plan_after e.deed) rest ∙ plan_after-end e.deed
-    step false rest = rest
-
-pub plan_left-none : (m : MachineData) (past : List Entry) (a : Actor) → is_machine m ≡ true → (a ≡ actor.Firmware 0 → ⊥) → plan_left m past a ≡ End
-plan_left-none m past a ok other = plan_left-end m past a (first_plan-none m a ok other)
-
--- ---- operations
-
--- what an operation does: one act on the cell of a field, and then the rest
-pub record OpDoes (fields : List FieldPart) (o : Op) : Type 0 where
-  pub field : FieldPart
-  pub place : ℕ
-  pub at : slice_get fields place ≡ Some field
-  pub needs_lock : Bool
-  pub does : Act
-  pub cell : cell_of_act does ≡ cell_of field
-  pub plan_is : (rest : Plan) → plan_op fields o rest ≡ Do needs_lock does (λ _. rest)
-
-at_place : {X : Type 0} (xs : List X) (i : ℕ) → i < length xs → (x : X) × (slice_get xs i ≡ Some x)
-at_place [] i below = absurd (omega arith)
-at_place (x ∷ xs) zero below = (x, refl)
-at_place (x ∷ xs) (suc i) below = at_place xs i (omega arith)
-
-pub op_does : (fields : List FieldPart) (o : Op) → is_op (length fields) o ≡ true → OpDoes fields o
-op_does fields (op.Read f) ok =
-    let found = at_place fields f (ltb-true _ _ ok) in
-    record { field = found.0; place = f; at = found.1; needs_lock = found.0.lock; does = act.Read (cell_of found.0); cell = refl; plan_is = λ rest. ap (λ o. read_field o rest) found.1 }
-op_does fields (op.Write f v) ok =
-    let found = at_place fields f (ltb-true _ _ ok) in
-    record { field = found.0; place = f; at = found.1; needs_lock = found.0.lock; does = act.Write (cell_of found.0) (v % 256); cell = refl; plan_is = λ rest. ap (λ o. write_field o v rest) found.1 }
-
--- ---- the place in a script
-
-pub drop-slice_get : {X : Type 0} (xs : List X) (i : ℕ) (x : X) → slice_get xs i ≡ Some x → drop i xs ≡ x ∷ drop (suc i) xs
-drop-slice_get [] i x at = cc
-drop-slice_get (y ∷ xs) zero x at = cc
-drop-slice_get (y ∷ xs) (suc i) x at = drop-slice_get xs i x at
-
--- where a script stands, the next act is that of its operation there
-pub plan-drop : (fields : List FieldPart) (ops : List Op) (i : ℕ) (o : Op) → slice_get ops i ≡ Some o → plan fields (drop i ops) ≡ plan_op fields o (plan fields (drop (suc i) ops))
-plan-drop fields ops i o at = ap (plan fields) (drop-slice_get ops i o at)
-
-drop-past : {X : Type 0} (xs : List X) (i : ℕ) → slice_get xs i ≡ None → drop i xs ≡ []
-drop-past [] i at = drop-nil i
-drop-past (x ∷ xs) zero at = cc
-drop-past (x ∷ xs) (suc i) at = drop-past xs i at
-
-pub plan-drop_past : (fields : List FieldPart) (ops : List Op) (i : ℕ) → slice_get ops i ≡ None → plan fields (drop i ops) ≡ End
-plan-drop_past fields ops i at = ap (plan fields) (drop-past ops i at)
-
--- ---- one allowed entry
+-- ---- conditions
 
 -- each condition holds
 abbrev pub AllHold : List (LogRule × Bool) → Type 0
@@ -140,65 +36,115 @@ first_failing-none (condition ∷ conditions) none = both condition.1 none (λ r
     both true none rest = (refl, rest none)
     both false none rest = cc
 
--- the next act of an actor, where it has one: it is the first firmware, and its script has an operation left
-record HasNext (m : MachineData) (past : List Entry) (passed : ℕ) (a : Actor) : Type 0 where
-  by_first : a ≡ actor.Firmware 0
-  operation : Op
-  stands : slice_get (script_of m 0) passed ≡ Some operation
-  means : OpDoes m.fields operation
-  next : next_of m past a ≡ Some means.does
+pub none_failing : (conditions : List (LogRule × Bool)) → AllHold conditions → first_failing conditions ≡ None
+none_failing [] all = refl
+none_failing (condition ∷ conditions) all = rw all.0 (none_failing conditions all.1)
 
-operation_next : (m : MachineData) (past : List Entry) (passed : ℕ) (found : Option Op) → is_machine m ≡ true → plan_left m past (actor.Firmware 0) ≡ plan m.fields (drop passed (script_of m 0)) → (next_of m past (actor.Firmware 0) ≡ None → ⊥) → slice_get (script_of m 0) passed ≡ found → HasNext m past passed (actor.Firmware 0)
-operation_next m past passed None ok script some at =
-    absurd (some (ap next_act (script ∙ plan-drop_past m.fields (script_of m 0) passed at)))
-operation_next m past passed (Some o) ok script some at =
-    let means = op_does m.fields o (op_named m passed o ok at) in
-    record { by_first = refl; operation = o; stands = at; means = means; next = ap next_act (script ∙ (plan-drop m.fields (script_of m 0) passed o at ∙ means.plan_is (plan m.fields (drop (suc passed) (script_of m 0))))) }
+-- ---- actors and cells
 
-has_next : (m : MachineData) (past : List Entry) (passed : ℕ) (a : Actor) → is_machine m ≡ true → plan_left m past (actor.Firmware 0) ≡ plan m.fields (drop passed (script_of m 0)) → (next_of m past a ≡ None → ⊥) → HasNext m past passed a
-has_next m past passed a ok script some =
-    elim (cases_first a) [
-      | inl first ↦ subst (HasNext m past passed) (sym first) (operation_next m past passed _ ok script (λ none. some (ap (next_of m past) first ∙ none)) refl)
-      | inr other ↦ absurd (some (ap next_act (plan_left-none m past a ok other)))
-    ]
+pub same_actor-true : (a b : Actor) → same_actor a b ≡ true → a ≡ b
+same_actor-true actor.Int actor.Int same = refl
+same_actor-true actor.Poll actor.Poll same = refl
+same_actor-true (actor.Worker j) (actor.Worker k) same = ap actor.Worker (eqb-true j k same)
+same_actor-true actor.Ec actor.Ec same = refl
+same_actor-true (actor.Device j) (actor.Device k) same = ap actor.Device (eqb-true j k same)
+same_actor-true (actor.Firmware j) (actor.Firmware k) same = ap actor.Firmware (eqb-true j k same)
+same_actor-true _ _ same = cc
 
--- the deed reads or writes a cell of the first region
-abbrev pub IsInside : MachineData → Deed → Type 0
-IsInside m (deed.Read c v) = (c.region ≡ 0) × (c.offset < cells_in (slice_get m.regions 0))
-IsInside m (deed.Write c v) = (c.region ≡ 0) × (c.offset < cells_in (slice_get m.regions 0))
-IsInside m _ = ⊥
+abbrev cell_at : ℕ → ℕ → Cell
+cell_at region offset = record { region = region; offset = offset }
 
--- what an allowed entry is: the act of the first firmware's next operation
-pub record Passes (m : MachineData) (passed : ℕ) (a : Actor) (d : Deed) : Type 0 where
-  pub by_first : a ≡ actor.Firmware 0
-  pub below : passed < length (script_of m 0)
-  pub inside : IsInside m d
-  pub goes_on : plan_after d (plan m.fields (drop passed (script_of m 0))) ≡ plan m.fields (drop (suc passed) (script_of m 0))
+pub same_cell-true : (c d : Cell) → same_cell c d ≡ true → c ≡ d
+same_cell-true c d same =
+    let parts = and_parts _ _ same in
+    ap (λ region. cell_at region c.offset) (eqb-true _ _ parts.0) ∙ ap (λ offset. cell_at d.region offset) (eqb-true _ _ parts.1)
 
-cell_inside : (m : MachineData) (c : Cell) (o : Op) → is_machine m ≡ true → (means : OpDoes m.fields o) → same_cell c (cell_of_act means.does) ≡ true → (c.region ≡ 0) × (c.offset < cells_in (slice_get m.regions 0))
-cell_inside m c o ok means same =
-    let parts = and_parts _ _ (subst (λ d. same_cell c d ≡ true) means.cell same) in
-    let first = field_in_first m means.place means.field ok means.at in
-    (eqb-true _ _ parts.0 ∙ first.region, subst (λ x. x < cells_in (slice_get m.regions 0)) (sym (eqb-true _ _ parts.1)) first.inside)
+pub same_cell-refl : (c : Cell) → same_cell c c ≡ true
+same_cell-refl c = and_from _ _ (eq-eqb c.region c.region refl) (eq-eqb c.offset c.offset refl)
 
-is_read-cell : (c : Cell) (a : Act) → is_read c (Some a) ≡ true → same_cell c (cell_of_act a) ≡ true
-is_read-cell c (act.Read d) ok = ok
-is_read-cell c (act.Write d w) ok = cc
+-- ---- plans
 
-is_write-cell : (c : Cell) (v : ℕ) (a : Act) → is_write c v (Some a) ≡ true → same_cell c (cell_of_act a) ≡ true
-is_write-cell c v (act.Read d) ok = cc
-is_write-cell c v (act.Write d w) ok = (and_parts _ _ ok).0
+after-end : (d : Deed) → left_after d End ≡ End
+after-end d = by_passes (passes d)
+  where
+    by_passes : (b : Bool) → cond b (plan_after (answer_of d) End) End ≡ End
+    by_passes true = refl
+    by_passes false = refl
 
--- both kinds of access pass the act
-passes : (m : MachineData) (past : List Entry) (passed : ℕ) (a : Actor) (d : Deed) (c : Cell) (test : Option Act → Bool) → is_machine m ≡ true → plan_left m past (actor.Firmware 0) ≡ plan m.fields (drop passed (script_of m 0)) → test None ≡ false → ((x : Act) → test (Some x) ≡ true → same_cell c (cell_of_act x) ≡ true) → ((c.region ≡ 0) × (c.offset < cells_in (slice_get m.regions 0)) → IsInside m d) → ((needs_lock : Bool) (x : Act) (rest : Plan) → plan_after d (Do needs_lock x (λ _. rest)) ≡ rest) → test (next_of m past a) ≡ true → Passes m passed a d
-passes m past passed a d c test ok script no_act on_cell inside goes_on passed_test =
-    let has = has_next m past passed a ok script (λ none. let e : test None ≡ true = subst (λ o. test o ≡ true) none passed_test in cc) in
-    let rest = plan m.fields (drop (suc passed) (script_of m 0)) in
-    record { by_first = has.by_first; below = slice_get_within (script_of m 0) passed has.operation has.stands; inside = inside (cell_inside m c has.operation ok has.means (on_cell has.means.does (subst (λ o. test o ≡ true) has.next passed_test))); goes_on = ap (plan_after d) (plan-drop m.fields (script_of m 0) passed has.operation has.stands ∙ has.means.plan_is rest) ∙ goes_on has.means.needs_lock has.means.does rest }
+-- who begins with nothing to do never has anything to do
+pub plan_left-end : (m : MachineData) (past : List Entry) (a : Actor) → first_plan m a ≡ End → plan_left m past a ≡ End
+plan_left-end m [] a none = none
+plan_left-end m (e ∷ past) a none = step (same_actor a e.actor) (plan_left-end m past a none)
+  where
+    step : (b : Bool) → plan_left m past a ≡ End → cond b (left_after e.deed (plan_left m past a)) (plan_left m past a) ≡ End
+    step true rest = ap (left_after e.deed) rest ∙ after-end e.deed
+    step false rest = rest
 
-pub allowed_passes : (m : MachineData) (past : List Entry) (passed : ℕ) (a : Actor) (d : Deed) → is_machine m ≡ true → plan_left m past (actor.Firmware 0) ≡ plan m.fields (drop passed (script_of m 0)) → Allowed m past (record { actor = a; deed = d }) → Passes m passed a d
-allowed_passes m past passed a (deed.Read c v) ok script allowed =
-    passes m past passed a (deed.Read c v) c (is_read c) ok script refl (is_read-cell c) (λ i. i) (λ _ _ _. refl) (first_failing-none (conditions m past a (deed.Read c v)) allowed).1.0
-allowed_passes m past passed a (deed.Write c v) ok script allowed =
-    passes m past passed a (deed.Write c v) c (is_write c v) ok script refl (is_write-cell c v) (λ i. i) (λ _ _ _. refl) (first_failing-none (conditions m past a (deed.Write c v)) allowed).1.0
-allowed_passes m past passed a _ ok script allowed = cc
+-- only firmware has a script, as long as no job is made
+pub first_plan-none : (m : MachineData) (a : Actor) → ((k : ℕ) → a ≡ actor.Firmware k → ⊥) → first_plan m a ≡ End
+first_plan-none m (actor.Firmware k) other = absurd (other k refl)
+first_plan-none m _ other = refl
+
+-- a firmware whose number is behind the last has nothing to do
+pub first_plan-past : (m : MachineData) (k : ℕ) → slice_get m.firmware k ≡ None → first_plan m (actor.Firmware k) ≡ End
+first_plan-past m k none = rw none refl
+
+pub plan-ended : (p : Plan) → next_act p ≡ None → p ≡ End
+plan-ended End none = refl
+plan-ended (Do needs a next) none = cc
+
+-- a plan whose next act reads this cell, or writes this byte to it
+pub reads_next : (p : Plan) (c : Cell) → is_read c (next_act p) ≡ true → (needs : Bool) × (next : ℕ → Plan) × (p ≡ Do needs (act.Read c) next)
+reads_next End c ok = cc
+reads_next (Do needs (act.Read d) next) c ok = (needs, next, ap (λ e. Do needs (act.Read e) next) (sym (same_cell-true c d ok)))
+reads_next (Do needs _ next) c ok = cc
+
+pub writes_next : (p : Plan) (c : Cell) (v : ℕ) → is_write c v (next_act p) ≡ true → (needs : Bool) × (next : ℕ → Plan) × (p ≡ Do needs (act.Write c v) next)
+writes_next End c v ok = cc
+writes_next (Do needs (act.Write d w) next) c v ok =
+    let parts = and_parts _ _ ok in
+    (needs, next, ap (λ e. Do needs (act.Write e w) next) (sym (same_cell-true c d parts.0)) ∙ ap (λ x. Do needs (act.Write c x) next) (sym (eqb-true v w parts.1)))
+writes_next (Do needs _ next) c v ok = cc
+
+-- ---- one allowed entry
+
+-- a firmware of the machine
+pub record IsFirmware (m : MachineData) (a : Actor) : Type 0 where
+  pub number : ℕ
+  pub is : a ≡ actor.Firmware number
+  pub below : number < length m.firmware
+
+-- a script is run by firmware alone, as long as no job is made
+pub by_firmware : (m : MachineData) (past : List Entry) (a : Actor) → runs_scripts m a ≡ true → (next_act (plan_left m past a) ≡ None → ⊥) → IsFirmware m a
+by_firmware m past (actor.Firmware k) runs some = record { number = k; is = refl; below = ltb-true k (length m.firmware) runs }
+by_firmware m past actor.Int runs some = cc
+by_firmware m past actor.Poll runs some = cc
+by_firmware m past (actor.Worker k) runs some = absurd (some (ap next_act (plan_left-end m past (actor.Worker k) refl)))
+by_firmware m past actor.Ec runs some = cc
+by_firmware m past (actor.Device k) runs some = cc
+
+-- the deed passes the next act of a firmware
+pub record Passes (m : MachineData) (past : List Entry) (a : Actor) (d : Deed) : Type 0 where
+  pub firmware : IsFirmware m a
+  pub needs : Bool
+  pub does : Act
+  pub next : ℕ → Plan
+  pub is : plan_left m past a ≡ Do needs does next
+  pub act : act_passed d ≡ Some does
+  pub passing : passes d ≡ true
+  pub brought : is_some (byte_answered d) ≡ brings does
+  pub answer : unwrap_or (byte_answered d) 0 ≡ answer_of d
+
+some_next : (p : Plan) (needs : Bool) (does : Act) (next : ℕ → Plan) → p ≡ Do needs does next → next_act p ≡ None → ⊥
+some_next p needs does next is none = let e : Some does ≡ None = sym (ap next_act is) ∙ none in cc
+
+pub allowed_passes : (m : MachineData) (past : List Entry) (a : Actor) (d : Deed) → Allowed m past (record { actor = a; deed = d }) → Passes m past a d
+allowed_passes m past a (deed.Read c v) allowed =
+    let holds = first_failing-none (conditions m past a (deed.Read c v)) allowed in
+    let shape = reads_next (plan_left m past a) c holds.1.0 in
+    record { firmware = by_firmware m past a holds.0 (some_next _ shape.0 (act.Read c) shape.1 shape.2); needs = shape.0; does = act.Read c; next = shape.1; is = shape.2; act = refl; passing = refl; brought = refl; answer = refl }
+allowed_passes m past a (deed.Write c v) allowed =
+    let holds = first_failing-none (conditions m past a (deed.Write c v)) allowed in
+    let shape = writes_next (plan_left m past a) c v holds.1.0 in
+    record { firmware = by_firmware m past a holds.0 (some_next _ shape.0 (act.Write c v) shape.1 shape.2); needs = shape.0; does = act.Write c v; next = shape.1; is = shape.2; act = refl; passing = refl; brought = refl; answer = refl }
+allowed_passes m past a _ allowed = cc

@@ -1,41 +1,58 @@
 -- A board as contracts see it, and what it keeps beside its journal.
-use Rattle.std.specs.Prelude.{ℕ, ◌≡◌, ◌<◌, ◌≤◌, List, length, reverse, drop, slice_get, slice_index, slice_set}
+use Rattle.std.specs.Prelude.{◌≡◌, ◌≤◌, ◌<◌, ◌^◌, ℕ, Bool, true, false, List, length, reverse, slice_get, Option, Some, None, MatchOption, is_some, unwrap_or, if◌then◌else◌}
+use Rattle.acpi_regs.specs.declared.actor.Actor.{Actor}
 use Rattle.acpi_regs.specs.declared.actor.Actor.TheVariants as actor
 use Rattle.acpi_regs.specs.declared.entry.Cell.{Cell}
 use Rattle.acpi_regs.specs.declared.entry.Deed.{Deed}
-use Rattle.acpi_regs.specs.declared.entry.Deed.TheVariants as deed
 use Rattle.acpi_regs.specs.declared.entry.Entry.{Entry}
-use Rattle.machine_desc.specs.Machine.{MachineData, script_of}
-use Rattle.machine_desc.specs.Plan.{plan}
-use Rattle.machine_desc.specs.Rules.{cells_in}
+use Rattle.acpi_regs.specs.Actor.{same_actor}
+use Rattle.handler_script.specs.declared.cursor.Cursor.{Cursor}
+use Rattle.handler_script.specs.Acts.{brings}
+use Rattle.handler_script.specs.Left.{left, stands}
+use Rattle.handler_script.specs.Plan.{End, Plan, next_act, plan_after}
+use Rattle.machine_desc.specs.Machine.{MachineData}
+use Rattle.machine_desc.specs.Weight.{weight_of}
+use Rattle.machine_core.specs.Cells.{IsCell, IsIn, byte_in}
 use Rattle.machine_core.specs.Legal.{LegalPast}
-use Rattle.machine_core.specs.Scripts.{plan_left}
+use Rattle.machine_core.specs.Scripts.{byte_answered, plan_left, script_of}
 use Rattle.machine_core.specs.Values.{value}
 
 pub record BoardData : Type 0 where
   pub machine : MachineData
   pub entries : List Entry
 
--- the machine has this cell
-abbrev pub IsCell : MachineData → Cell → Type 0
-IsCell m c = c.offset < cells_in (slice_get m.regions c.region)
+-- what is left of a script where a cursor stands in it
+abbrev pub left_in : MachineData → ℕ → Option Cursor → Plan
+left_in m k None = End
+left_in m k (Some c) = left m.fields (script_of m k) c
 
--- the bytes of the first region's cells after an entry
-abbrev pub bytes_after : Deed → List ℕ → List ℕ
-bytes_after (deed.Write c v) bytes = slice_set bytes c.offset v
-bytes_after _ bytes = bytes
+-- what is left of each firmware script, by its cursor
+abbrev pub left_of : MachineData → List Cursor → ℕ → Plan
+left_of m cursors k = left_in m k (slice_get cursors k)
 
--- a write stays within this many cells
-abbrev pub WritesWithin : Deed → ℕ → Type 0
-WritesWithin (deed.Write c v) cells = c.offset < cells
-WritesWithin _ cells = Unit {0}
+abbrev pub stands_in : MachineData → ℕ → Option Cursor → Bool
+stands_in m k None = false
+stands_in m k (Some c) = stands m.fields (script_of m k) c
 
--- what a board keeps: the bytes of the first region's cells, how many operations of the first script have passed, and room for the entries to come
-pub record IsKept (m : MachineData) (entries : List Entry) (bytes : List ℕ) (passed room : ℕ) : Type 0 where
+-- each firmware script has a cursor, and an act can stand where it is
+abbrev pub Stand : MachineData → List Cursor → Type 0
+Stand m cursors = (k : ℕ) → k < length m.firmware → stands_in m k (slice_get cursors k) ≡ true
+
+-- the entry passes the next act of a firmware's script
+abbrev pub Passing : MachineData → List Cursor → Actor → Deed → Type 0
+Passing m cursors (actor.Firmware k) d = (k < length m.firmware) × MatchOption (next_act (left_of m cursors k)) ⊥ (λ a. is_some (byte_answered d) ≡ brings a)
+Passing m cursors _ d = ⊥
+
+-- what is left of a firmware's script after it
+abbrev pub left_by : Entry → ℕ → Plan → Plan
+left_by e k p = if same_actor (actor.Firmware k) e.actor then plan_after (unwrap_or (byte_answered e.deed) 0) p else p
+
+-- what a board keeps is what the definitions find by looking back, and there is room for the entries to come
+pub record IsKept (m : MachineData) (entries : List Entry) (cells : List (List ℕ)) (cursors : List Cursor) (room : ℕ) : Type 0 where
   pub legal : LegalPast m (reverse entries)
-  pub size : length bytes ≡ cells_in (slice_get m.regions 0)
-  pub bytes_last : (offset : ℕ) → offset < length bytes → slice_index bytes offset ≡ value m (reverse entries) (record { region = 0; offset = offset })
-  pub script : plan_left m (reverse entries) (actor.Firmware 0) ≡ plan m.fields (drop passed (script_of m 0))
-  pub one_each : length entries ≡ passed
-  pub within : passed ≤ length (script_of m 0)
-  pub room_left : length (script_of m 0) ≤ room
+  pub cells_in : (c : Cell) → IsCell m c → IsIn cells c
+  pub cells_are : (c : Cell) → IsCell m c → byte_in cells c ≡ value m (reverse entries) c
+  pub stand : Stand m cursors
+  pub left_are : (k : ℕ) → k < length m.firmware → left_of m cursors k ≡ plan_left m (reverse entries) (actor.Firmware k)
+  pub room_left : weight_of m ≤ room
+  pub small : room < 2 ^ 32

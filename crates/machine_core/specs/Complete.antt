@@ -6,10 +6,11 @@ use Rattle.acpi_regs.specs.declared.entry.Entry.{Entry}
 use Rattle.acpi_regs.specs.History.{past_of}
 use Rattle.acpi_regs.specs.Lock.{owner, seeker}
 use Rattle.machine_desc.specs.Machine.{MachineData}
-use Rattle.machine_desc.specs.Plan.{End, acts_of}
+use Rattle.handler_script.specs.Plan.{End, acts_of}
 use Rattle.machine_core.specs.Legal.{Legal}
 use Rattle.machine_core.specs.Scripts.{plan_left, first_plan, acts_passed, answers}
-use Rattle.machine_core.specs.Values.{Access, access_of, value}
+use Rattle.machine_core.specs.declared.cells.Access.{Access}
+use Rattle.machine_core.specs.Values.{access_of, value}
 
 -- nobody owns the Global Lock, and nobody competes for it
 pub record Rest (history : List Entry) : Type 0 where

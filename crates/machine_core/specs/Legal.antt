@@ -9,34 +9,32 @@ use Rattle.acpi_regs.specs.declared.entry.Deed.{Deed}
 use Rattle.acpi_regs.specs.declared.entry.Deed.TheVariants as deed
 use Rattle.acpi_regs.specs.declared.entry.Entry.{Entry}
 use Rattle.acpi_regs.specs.History.{past_of}
-use Rattle.machine_desc.specs.declared.script.Act.{Act}
-use Rattle.machine_desc.specs.declared.script.Act.TheVariants as act
+use Rattle.handler_script.specs.declared.act.Act.{Act}
+use Rattle.handler_script.specs.declared.act.Act.TheVariants as act
 use Rattle.machine_desc.specs.Machine.{MachineData}
 use Rattle.machine_core.specs.declared.rule.LogRule.{LogRule}
 use Rattle.machine_core.specs.declared.rule.LogRule.TheVariants as rule
 use Rattle.machine_core.specs.Scripts.{next_of}
 use Rattle.machine_core.specs.Values.{value, same_cell}
 
--- a worker or a firmware of the machine, which has one worker
+-- a worker or a firmware of the machine
 abbrev pub runs_scripts : MachineData → Actor → Bool
 runs_scripts m actor.Int = false
 runs_scripts m actor.Poll = false
-runs_scripts m (actor.Worker k) = k == 0
+runs_scripts m (actor.Worker k) = nat_lt k m.workers
 runs_scripts m actor.Ec = false
 runs_scripts m (actor.Device k) = false
 runs_scripts m (actor.Firmware k) = nat_lt k (length m.firmware)
 
 -- the act reads this cell
 abbrev pub is_read : Cell → Option Act → Bool
-is_read c None = false
 is_read c (Some (act.Read d)) = same_cell c d
-is_read c (Some (act.Write d v)) = false
+is_read c _ = false
 
 -- the act writes this byte to this cell
 abbrev pub is_write : Cell → ℕ → Option Act → Bool
-is_write c v None = false
-is_write c v (Some (act.Read d)) = false
 is_write c v (Some (act.Write d w)) = same_cell c d && (v == w)
+is_write c v _ = false
 
 -- The table of entries. An entry whose row is not built has no actor that may make it.
 abbrev pub conditions : MachineData → List Entry → Actor → Deed → List (LogRule × Bool)

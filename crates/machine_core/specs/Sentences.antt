@@ -4,9 +4,10 @@ use Rattle.acpi_regs.specs.declared.actor.Actor.{Actor}
 use Rattle.acpi_regs.specs.declared.entry.Cell.{Cell}
 use Rattle.acpi_regs.specs.declared.entry.Entry.{Entry}
 use Rattle.acpi_regs.specs.History.{past_of}
-use Rattle.machine_desc.specs.declared.script.Act.{Act}
-use Rattle.machine_desc.specs.Machine.{MachineData, first_byte}
-use Rattle.machine_desc.specs.Plan.{acts_of}
+use Rattle.handler_script.specs.declared.act.Act.{Act}
+use Rattle.machine_desc.specs.Machine.{MachineData}
+use Rattle.machine_core.specs.Cells.{first_byte}
+use Rattle.handler_script.specs.Plan.{acts_of}
 use Rattle.machine_core.specs.Scripts.{acts_passed, answers, first_plan, next_of}
 use Rattle.machine_core.specs.Values.{access_of, value}
 

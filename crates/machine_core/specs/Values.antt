@@ -5,14 +5,9 @@ use Rattle.acpi_regs.specs.declared.entry.Cell.{Cell}
 use Rattle.acpi_regs.specs.declared.entry.Deed.{Deed}
 use Rattle.acpi_regs.specs.declared.entry.Deed.TheVariants as deed
 use Rattle.acpi_regs.specs.declared.entry.Entry.{Entry}
-use Rattle.machine_desc.specs.Machine.{MachineData, first_byte}
-
--- one byte read from a cell or written to it, and the actor to whom the access is credited
-pub record Access : Type 0 where
-  pub by : Actor
-  pub cell : Cell
-  pub byte : ℕ
-  pub writes : Bool
+use Rattle.machine_desc.specs.Machine.{MachineData}
+use Rattle.machine_core.specs.declared.cells.Access.{Access}
+use Rattle.machine_core.specs.Cells.{first_byte}
 
 abbrev pub deed_access : Actor → Deed → Option Access
 deed_access a (deed.Read c v) = Some record { by = a; cell = c; byte = v; writes = false }

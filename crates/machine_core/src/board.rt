@@ -1,28 +1,29 @@
-ghost use Rattle.std.specs.Prelude.{◌≡◌, ◌<◌, [], ◌∷◌, ◌++◌, length, reverse, IsTrue, IfOk, IfSome, OnSome, Some, None, slice_get, ◌↔◌};
-ghost use Rattle.machine_desc.specs.Machine.{weight_of};
-ghost use Rattle.machine_core.specs.Board.{IsCell, WritesWithin, bytes_after};
+ghost use Rattle.std.specs.Prelude.{◌≡◌, ◌<◌, ◌≤◌, [], ◌∷◌, ◌++◌, length, reverse, IsTrue, IfOk, Some, slice_get, ◌↔◌};
+ghost use Rattle.machine_desc.specs.Weight.{weight_of};
+ghost use Rattle.machine_core.specs.Cells.{IsCell};
 ghost use Rattle.machine_core.specs.Legal.{Legal, refusal, runs_scripts, is_read, is_write};
-ghost use Rattle.machine_core.specs.Scripts.{cell_of_act, next_of};
+ghost use Rattle.machine_core.specs.Scripts.{next_of};
 ghost use Rattle.machine_core.specs.Values.{value};
 
-use crate::{LogRule, script};
+use crate::LogRule;
+use crate::cells::{Access, Cells};
+use crate::cursors::Cursors;
 use acpi_regs::{Actor, Cell, Deed, Entry, Memory};
-use machine_desc::{Act, Machine};
+use handler_script::Act;
+use machine_desc::Machine;
 use std::alloc::Global;
 use std::marker::Model;
 
 /// A machine with the journal of what happened on it, which is legal at every moment.
 ///
-/// Beside the journal it keeps the bytes that the definitions find by looking back, so that no call depends on
-/// how long the journal is. All room is taken by [`Board::new`].
+/// Beside the journal it keeps what the definitions find by looking back, so that no call depends on how long the
+/// journal is. All room is taken by [`Board::new`].
 #[derive(Debug, Drop)]
 pub struct Board {
     machine: Machine,
     journal: Vec<Entry>,
-    /// The bytes of the first region's cells.
-    cells: Vec<u8>,
-    /// How many operations of the first firmware script have passed.
-    passed: usize,
+    cells: Cells,
+    cursors: Cursors,
 }
 
 impl Model for Board {
@@ -33,25 +34,24 @@ impl Model for Board {
 
     ghost view = { λ b. record { machine = b.machine; entries = b.journal.items } };
 
-    ghost invariant = { λ b. IsKept b.machine b.journal.items b.cells.items b.passed
+    ghost invariant = { λ b. IsKept b.machine b.journal.items b.cells b.cursors
         (vec_capacity b.journal) };
 }
 
 impl Board {
     /// A board with an empty journal, and room for every entry that the machine can need.
     pub fn new(alloc: Global, machine: Machine) -> Result<Board, Memory>
+        requires { weight_of machine ≤ 1048576 }
         ensures { IfOk result (λ board. board ≡ record { machine = machine; entries = [] }) }
     {
-        let cells = match machine.regions().first() {
-            Some(region) => region.cells.as_slice().to_vec(alloc)?,
-            None => Vec::new(alloc),
-        };
-        let journal = Vec::with_capacity(alloc, script::first_script(&machine).len())?;
+        let journal = Vec::with_capacity(alloc, machine.weight() as usize)?;
+        let cells = Cells::new(alloc, &machine)?;
+        let cursors = Cursors::new(alloc, &machine)?;
         Ok(Board {
             machine,
             journal,
             cells,
-            passed: 0,
+            cursors,
         })
     }
 
@@ -66,7 +66,6 @@ impl Board {
     pub fn len(&self) -> u32
         ensures { result ≡ length self.now.entries }
     {
-        self.machine.law_rules();
         self.journal.len() as u32
     }
 
@@ -90,23 +89,16 @@ impl Board {
         requires { IsCell self.now.machine cell }
         ensures { result ≡ value self.now.machine (reverse self.now.entries) cell }
     {
-        self.machine.law_rules();
-        self.cells[usize::from(cell.offset)]
+        self.cells.byte(cell)
     }
 
     /// The next act of an actor. `None` exactly where its script is through, or it has none.
     pub fn act(&self, actor: Actor) -> Option<Act>
-        ensures next { result ≡ next_of self.now.machine (reverse self.now.entries) actor }
-
-        // The act is on a cell of the machine, and the journal has room for its entry.
-        ensures cell { IfSome result (λ act. IsCell self.now.machine (cell_of_act act)) }
-        ensures room { OnSome result (length self.now.entries < weight_of self.now.machine) }
+        ensures { result ≡ next_of self.now.machine (reverse self.now.entries) actor }
     {
-        self.machine.law_rules();
-        if has_script(actor) {
-            self.first_act()
-        } else {
-            None
+        match actor {
+            Actor::Firmware(number) => self.firmware_act(number),
+            _ => None,
         }
     }
 
@@ -135,8 +127,8 @@ impl Board {
         ensures { self.new ≡ record self.old { entries = self.old.entries ++ entry ∷ [] } }
     {
         self.machine.law_rules();
-        write_through(&mut self.cells, entry.deed);
-        self.passed += 1;
+        self.cells.after(Access::of(entry));
+        self.cursors.after(&self.machine, entry);
         self.journal.push_reserved(entry);
     }
 
@@ -147,22 +139,22 @@ impl Board {
         let _journal = &self.journal;
     }
 
-    /// The next act of the first firmware script.
-    fn first_act(&self) -> Option<Act>
-        ensures next { result ≡ next_of self.now.machine (reverse self.now.entries)
-            (Actor.Firmware 0) }
-        ensures cell { IfSome result (λ act. IsCell self.now.machine (cell_of_act act)) }
-        ensures room { OnSome result (length self.now.entries < weight_of self.now.machine) }
+    /// The next act of a firmware; `None` where the machine has no such firmware.
+    fn firmware_act(&self, number: u8) -> Option<Act>
+        ensures { result ≡ next_of self.now.machine (reverse self.now.entries) (Actor.Firmware number) }
     {
-        self.machine.law_rules();
-        let op = script::first_script(&self.machine).get(self.passed)?;
-        Some(script::act_of(&self.machine, op))
+        if usize::from(number) < self.machine.firmware().len() {
+            self.cursors.next(&self.machine, number)
+        } else {
+            None
+        }
     }
 
     fn read_refusal(&self, actor: Actor, cell: Cell, byte: u8) -> Option<LogRule>
         ensures { result ≡ refusal self.now.machine (reverse self.now.entries)
             (record { actor = actor; deed = Deed.Read cell byte }) }
     {
+        self.machine.law_rules();
         if !self.runs_scripts(actor) {
             return Some(LogRule::Actor);
         }
@@ -193,27 +185,10 @@ impl Board {
         ensures { result ≡ runs_scripts self.now.machine actor }
     {
         match actor {
-            Actor::Worker(number) => number == 0,
+            Actor::Worker(number) => number < self.machine.workers(),
             Actor::Firmware(number) => usize::from(number) < self.machine.firmware().len(),
             Actor::Int | Actor::Poll | Actor::Ec | Actor::Device(_) => false,
         }
-    }
-}
-
-/// Whether the actor is the first firmware, the only actor that may have a script today.
-fn has_script(actor: Actor) -> bool
-    ensures { IsTrue result ↔ (actor ≡ Actor.Firmware 0) }
-{
-    actor == Actor::Firmware(0)
-}
-
-/// The bytes of the first region's cells after an entry.
-fn write_through(cells: &mut [u8], deed: Deed)
-    requires { WritesWithin deed (length cells.old) }
-    ensures { cells.new ≡ bytes_after deed cells.old }
-{
-    if let Deed::Write(cell, byte) = deed {
-        cells[usize::from(cell.offset)] = byte;
     }
 }
 

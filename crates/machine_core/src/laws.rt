@@ -4,8 +4,9 @@ ghost use Rattle.std.specs.Prelude.{◌≡◌, ◌↔◌, ◌≤◌, List, lengt
 ghost use Rattle.acpi_regs.specs.declared.actor.Actor.{Actor};
 ghost use Rattle.acpi_regs.specs.declared.entry.Cell.{Cell};
 ghost use Rattle.acpi_regs.specs.declared.entry.Entry.{Entry};
-ghost use Rattle.machine_desc.specs.Machine.{MachineData, weight_of};
-ghost use Rattle.machine_desc.specs.Rules.{is_machine};
+ghost use Rattle.machine_desc.specs.Machine.{MachineData};
+ghost use Rattle.machine_desc.specs.Kept.{IsMachine};
+ghost use Rattle.machine_desc.specs.Weight.{weight_of};
 ghost use Rattle.machine_core.specs.Complete.{Complete, ReadsLast, ScriptsOnce};
 ghost use Rattle.machine_core.specs.Legal.{EachAllowed, Legal};
 ghost use Rattle.machine_core.specs.Sentences.{IsFirstLeft, IsLastByte};
@@ -33,7 +34,7 @@ pub fn law_scripts_once()
 /// A legal history of a machine has at most as many entries as the machine's weight.
 pub fn law_weight()
     ensures { (m : MachineData) (history : List Entry)
-        → IsTrue (is_machine m) → Legal m history → length history ≤ weight_of m }
+        → IsMachine m → Legal m history → length history ≤ weight_of m }
 {}
 
 /// The value of a cell is the byte of the last write to it, else the description's.

@@ -1,129 +1,209 @@
-//! A board of a small machine, from an empty journal to the end of its script.
+//! A board of a small machine, from an empty journal to the end of its scripts.
 use crate::{Board, LogRule};
 use acpi_regs::{Actor, Cell, Deed, Entry};
-use machine_desc::{
-    Act, Cells, FieldPart, Machine, MachineParts, Op, RegionKind, RegionPart, Script, UpdateRule,
-};
-use std::alloc::Global;
+use field_units::{RegionKind, UpdateRule};
+use handler_script::{Act, Op};
+use machine_desc::{FieldPart, Items, Machine, MachineParts, RegionPart};
+use std::alloc::{AllocError, Global};
 use std::test::Fail;
 
-const FIRST: Cell = Cell {
-    region: 0,
-    offset: 0,
-};
+/// The greatest weight of a machine that a board is made for.
+const MAX_WEIGHT: u64 = 1_048_576;
 
-const SECOND: Cell = Cell {
-    region: 0,
-    offset: 1,
-};
+fn cell(region: u8, offset: u16) -> Cell {
+    Cell { region, offset }
+}
 
 fn by(actor: Actor, deed: Deed) -> Entry {
     Entry { actor, deed }
 }
 
-/// What the first firmware does.
-fn by_firmware(deed: Deed) -> Entry {
-    by(Actor::Firmware(0), deed)
+/// What a firmware does.
+fn by_firmware(number: u8, deed: Deed) -> Entry {
+    by(Actor::Firmware(number), deed)
 }
 
-/// A board of two cells, 7 and 0, with a script that writes 90 to the first cell and reads it.
-fn small_board(alloc: Global) -> Result<Board, Fail> {
-    let region = RegionPart {
+fn memory(alloc: Global, len: u16, byte: u8) -> Result<RegionPart, AllocError> {
+    Ok(RegionPart {
         kind: RegionKind::Memory,
-        len: 2,
-        bytes: Cells::new(vec![in alloc; 7]?),
-    };
-    let field = FieldPart {
-        region: 0,
-        bit: 0,
-        width: 8,
+        len,
+        bytes: Items::new(vec![in alloc; byte]?),
+    })
+}
+
+fn field(region: u8, bit: u32, width: u8) -> FieldPart {
+    FieldPart {
+        region,
+        bit,
+        width,
         lock: false,
         update: UpdateRule::Preserve,
-    };
-    let script = Script::new(vec![in alloc; Op::Write(0, 90), Op::Read(0)]?);
-    let machine = Machine::new(
+    }
+}
+
+fn script(alloc: Global, ops: &[Op]) -> Result<Items<Op>, AllocError> {
+    Ok(Items::new(ops.to_vec(alloc)?))
+}
+
+/// A region of two cells, 7 and 0, and one of one cell, 195. The first firmware writes 90 to the first cell and reads it.
+/// The second reads four bits of the other region, which are 12, passes over a write, and writes them.
+fn small_parts(alloc: Global) -> Result<MachineParts, AllocError> {
+    let first = script(alloc, &[Op::Write(0, 90), Op::Read(0)])?;
+    let second = script(
         alloc,
-        MachineParts {
-            regions: vec![in alloc; region]?,
-            fields: vec![in alloc; field]?,
-            firmware: vec![in alloc; script]?,
-        },
+        &[
+            Op::Read(1),
+            Op::Skip(0, 1),
+            Op::Write(0, 1),
+            Op::Write(1, 0x25),
+        ],
     )?;
+    Ok(MachineParts {
+        version: 1,
+        gpe0: 2,
+        base1: 0,
+        gpe1: 0,
+        workers: 1,
+        regions: Items::new(vec![in alloc; memory(alloc, 2, 7)?, memory(alloc, 1, 195)?]?),
+        fields: Items::new(vec![in alloc; field(0, 0, 8), field(1, 4, 4)]?),
+        events: Items::new(Vec::new(alloc)),
+        controller: None,
+        firmware: Items::new(vec![in alloc; first, second]?),
+        devices: Items::new(Vec::new(alloc)),
+        schedule: Items::new(Vec::new(alloc)),
+    })
+}
+
+/// A board of the machine of these parts.
+fn board_of(alloc: Global, parts: MachineParts) -> Result<Board, Fail> {
+    if !parts.is_given() {
+        return Err(Fail::new("these are no parts of a description"));
+    }
+    let machine = Machine::new(alloc, parts)?;
+    if machine.weight() > MAX_WEIGHT {
+        return Err(Fail::new("the machine is too heavy"));
+    }
     Ok(Board::new(alloc, machine)?)
 }
 
-/// The byte of a cell of the first region; `None` behind its end.
-fn byte_at(board: &Board, offset: u16) -> Option<u8> {
-    let region = board.machine().regions().first()?;
-    if usize::from(offset) < region.cells.as_slice().len() {
-        Some(board.cell(Cell { region: 0, offset }))
+fn small_board(alloc: Global) -> Result<Board, Fail> {
+    board_of(alloc, small_parts(alloc)?)
+}
+
+/// The byte of a cell; `None` where the machine has no such cell.
+fn byte_at(board: &Board, cell: Cell) -> Option<u8> {
+    let region = board.machine().regions().get(usize::from(cell.region))?;
+    if usize::from(cell.offset) < region.cells().len() {
+        Some(board.cell(cell))
     } else {
         None
     }
 }
 
+/// Applies an entry that is allowed.
+fn make(board: &mut Board, entry: Entry) -> Result<(), Fail> {
+    if !board.can(&entry) {
+        return Err(Fail::new("the entry is not allowed"));
+    }
+    board.apply(entry);
+    Ok(())
+}
+
 #[test]
-fn a_script_goes_act_by_act_to_its_end(rt: HostRuntime) -> Result<(), Fail> {
+fn two_scripts_go_act_by_act_to_their_end(rt: HostRuntime) -> Result<(), Fail> {
     let mut board = small_board(rt.alloc())?;
-    assert_eq!(rt; board.machine().weight(), 2);
+    assert_eq!(rt; board.machine().weight(), 7);
     assert!(rt; board.is_empty());
-    assert_eq!(rt; board.len(), 0);
-    assert_eq!(rt; byte_at(&board, 0), Some(7));
-    assert_eq!(rt; byte_at(&board, 1), Some(0));
-    assert_eq!(rt; board.act(Actor::Firmware(0)), Some(Act::Write(FIRST, 90)));
-    assert_eq!(rt; board.act(Actor::Worker(0)), None);
+    let entries = [
+        by_firmware(1, Deed::Read(cell(1, 0), 195)),
+        by_firmware(0, Deed::Write(cell(0, 0), 90)),
+        by_firmware(1, Deed::Write(cell(0, 0), 1)),
+    ];
+    // The value that was read is 12 and not 0, so the skip passes over the write to the first cell.
+    assert!(rt; !board.can(&entries[2]));
+    make(&mut board, entries[0])?;
+    make(&mut board, entries[1])?;
+    assert!(rt; !board.can(&entries[2]));
 
-    let write = by_firmware(Deed::Write(FIRST, 90));
-    assert!(rt; board.can(&write));
-    board.apply(write);
+    // Four bits of the cell stay: it is read before it is written.
+    let rest = [
+        (
+            Act::Read(cell(1, 0)),
+            by_firmware(1, Deed::Read(cell(1, 0), 195)),
+        ),
+        (
+            Act::Write(cell(1, 0), 0x53),
+            by_firmware(1, Deed::Write(cell(1, 0), 0x53)),
+        ),
+        (
+            Act::Read(cell(0, 0)),
+            by_firmware(0, Deed::Read(cell(0, 0), 90)),
+        ),
+    ];
+    for (act, entry) in rest {
+        assert_eq!(rt; board.act(entry.actor), Some(act));
+        make(&mut board, entry)?;
+    }
+    for actor in [
+        Actor::Firmware(0),
+        Actor::Firmware(1),
+        Actor::Firmware(2),
+        Actor::Worker(0),
+    ] {
+        assert_eq!(rt; board.act(actor), None);
+    }
+    assert_eq!(rt; board.len(), 5);
     assert!(rt; !board.is_empty());
-    assert_eq!(rt; byte_at(&board, 0), Some(90));
-    assert_eq!(rt; byte_at(&board, 1), Some(0));
-    assert_eq!(rt; board.act(Actor::Firmware(0)), Some(Act::Read(FIRST)));
-
-    let read = by_firmware(Deed::Read(FIRST, 90));
-    assert!(rt; board.can(&read));
-    board.apply(read);
-    assert_eq!(rt; board.act(Actor::Firmware(0)), None);
-    assert_eq!(rt; board.len(), 2);
-    assert_eq!(rt; board.entry(0), write);
-    assert_eq!(rt; board.entry(1), read);
-    assert!(rt; !board.can(&read));
+    let bytes = [
+        (cell(0, 0), Some(90)),
+        (cell(0, 1), Some(0)),
+        (cell(0, 2), None),
+        (cell(1, 0), Some(0x53)),
+        (cell(2, 0), None),
+    ];
+    for (cell, byte) in bytes {
+        assert_eq!(rt; byte_at(&board, cell), byte);
+    }
+    if 1 < board.len() {
+        assert_eq!(rt; board.entry(1), entries[1]);
+    }
     Ok(())
 }
 
 #[test]
 fn no_other_entry_than_the_next_may_be_made(rt: HostRuntime) -> Result<(), Fail> {
     let mut board = small_board(rt.alloc())?;
-    let write = by_firmware(Deed::Write(FIRST, 90));
+    let write = by_firmware(0, Deed::Write(cell(0, 0), 90));
     let not_first = [
-        (by_firmware(Deed::Write(FIRST, 91)), LogRule::Next),
-        (by_firmware(Deed::Write(SECOND, 90)), LogRule::Next),
-        (by_firmware(Deed::Read(FIRST, 7)), LogRule::Next),
-        (by_firmware(Deed::Seek), LogRule::Actor),
+        (by_firmware(0, Deed::Write(cell(0, 0), 91)), LogRule::Next),
+        (by_firmware(0, Deed::Write(cell(0, 1), 90)), LogRule::Next),
+        (by_firmware(0, Deed::Write(cell(1, 0), 90)), LogRule::Next),
+        (by_firmware(0, Deed::Read(cell(0, 0), 7)), LogRule::Next),
+        (by_firmware(0, Deed::Seek), LogRule::Actor),
+        (by_firmware(1, Deed::Write(cell(0, 0), 90)), LogRule::Next),
+        (by_firmware(1, Deed::Read(cell(1, 0), 12)), LogRule::Value),
+        (by_firmware(2, Deed::Write(cell(0, 0), 90)), LogRule::Actor),
         (
-            by(Actor::Firmware(1), Deed::Write(FIRST, 90)),
+            by(Actor::Worker(0), Deed::Write(cell(0, 0), 90)),
+            LogRule::Next,
+        ),
+        (
+            by(Actor::Worker(1), Deed::Write(cell(0, 0), 90)),
             LogRule::Actor,
         ),
-        (by(Actor::Worker(0), Deed::Write(FIRST, 90)), LogRule::Next),
     ];
     for (entry, rule) in not_first {
         assert!(rt; !board.can(&entry));
         assert_eq!(rt; board.refusal(&entry), Some(rule));
     }
-    assert!(rt; board.can(&write));
     assert_eq!(rt; board.refusal(&write), None);
-    board.apply(write);
-    let elsewhere = Cell {
-        region: 1,
-        offset: 0,
-    };
+    make(&mut board, write)?;
     let not_second = [
         (write, LogRule::Next),
-        (by_firmware(Deed::Read(FIRST, 7)), LogRule::Value),
-        (by_firmware(Deed::Read(SECOND, 0)), LogRule::Next),
-        (by_firmware(Deed::Read(elsewhere, 90)), LogRule::Next),
-        (by(Actor::Ec, Deed::Read(FIRST, 90)), LogRule::Actor),
+        (by_firmware(0, Deed::Read(cell(0, 0), 7)), LogRule::Value),
+        (by_firmware(0, Deed::Read(cell(0, 1), 0)), LogRule::Next),
+        (by_firmware(0, Deed::Read(cell(1, 0), 90)), LogRule::Next),
+        (by(Actor::Ec, Deed::Read(cell(0, 0), 90)), LogRule::Actor),
     ];
     for (entry, rule) in not_second {
         assert!(rt; !board.can(&entry));

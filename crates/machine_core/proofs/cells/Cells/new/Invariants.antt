@@ -1,0 +1,5 @@
+use Rattle.std.proofs.Common.{◌≡◌, map, take}
+use Rattle.machine_core.proofs.cells.Cells.new.Given as goal
+
+abbrev pub invariant-loop-region : goal.invariant-loop-region
+invariant-loop-region l = l.regions.items ≡ map (λ r. r.cells) (take l.region-index l.region-items)
