@@ -1,4 +1,4 @@
-pub mod CanonicalLemmas
-pub mod DescriptionLemmas
+pub mod Exact
 pub mod RunLemmas
+pub mod Simple
 pub mod Writing

@@ -1,5 +1,4 @@
-pub mod Canonical
-pub mod Description
+pub mod Built
 pub mod Ending
 pub mod Run
 pub mod Text

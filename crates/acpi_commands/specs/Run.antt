@@ -1,15 +1,17 @@
 -- What a call of the program did, by the status that it answered.
-use Rattle.std.specs.Prelude.{◌≡◌, ℕ, ◌+◌, ◌≤◌, ◌⊎◌, List, [], ◌∷◌, length, map, codes, Option, Some, None, String, string_bytes}
+use Rattle.std.specs.Prelude.{◌≡◌, ℕ, true, false, ◌+◌, ◌≤◌, ◌⊎◌, List, [], ◌∷◌, length, map, codes, Option, Some, None, Ok, Err, String, string_bytes}
 use Rattle.std.specs.Io.KnownBytes.{Appends, Consumes, IsAtEnd}
 use Rattle.std.specs.declared.alloc.Global.{Global}
-use Rattle.serde_json.specs.Data.{Data}
 use Rattle.acpi_io.specs.Sink.{AddsFront}
 use Rattle.acpi_io.specs.Source.{TakesExactly, TakesUpTo}
 use Rattle.acpi_regs.specs.declared.entry.Entry.{Entry}
 use Rattle.machine_desc.specs.Machine.{MachineData}
 use Rattle.machine_core.specs.Complete.{Complete, ReadsLast, ScriptsOnce}
-use Rattle.acpi_commands.specs.Canonical.{canonical}
-use Rattle.acpi_commands.specs.Description.{IsJson, machine_in}
+use Rattle.machine_reader.specs.declared.fault.ReaderFault.{ReaderFault}
+use Rattle.machine_reader.specs.declared.fault.ReaderFault.TheVariants as fault
+use Rattle.machine_reader.specs.Canonical.{canonical}
+use Rattle.machine_reader.specs.Description.{Describes}
+use Rattle.acpi_commands.specs.Built.{is_built}
 use Rattle.acpi_commands.specs.Text.{log_text}
 use Rattle.acpi_commands.specs.declared.status.Status.{Status}
 use Rattle.acpi_commands.specs.declared.status.Status.TheVariants as status
@@ -26,10 +28,6 @@ IsRun words = map string_bytes words ≡ codes "run" ∷ []
 abbrev pub ReadsWhole : Option (List ℕ) → Option (List ℕ) → List ℕ → Type 0
 ReadsWhole left left' bytes = (length bytes ≤ limit) × Consumes left left' bytes × IsAtEnd left'
 
--- the bytes are a description of this machine
-abbrev pub Describes : List ℕ → MachineData → Type 0
-Describes bytes m = (d : Data) × IsJson bytes d × (machine_in d ≡ Some m)
-
 -- the text of a machine and its history
 abbrev pub text : MachineData → List Entry → List ℕ
 text m history = log_text (canonical m) history
@@ -37,19 +35,34 @@ text m history = log_text (canonical m) history
 -- What a run stands for: the bytes describe the machine, and this is a complete history of it, in which each script made
 -- its acts once and in order and each read gave the last byte written.
 pub record Ran (bytes : List ℕ) (m : MachineData) (history : List Entry) : Type 0 where
-  pub describes : Describes bytes m
+  pub describes : Describes bytes (Ok m)
   pub complete : Complete m history
   pub once : ScriptsOnce m history
   pub last : ReadsLast m history
+
+-- the status of a fault of the reader
+abbrev pub status_of : ReaderFault → Status
+status_of fault.NotJson = status.NotJson
+status_of (fault.BadShape path) = status.BadShape path
+status_of (fault.BadMachine bad) = status.BadMachine bad
+status_of (fault.TooLong weight) = status.TooLong weight
+status_of fault.Memory = status.Memory
+
+-- Why the bytes are not run. Want of memory is free.
+abbrev pub Refuses : List ℕ → Status → Type 0
+Refuses bytes status.NotJson = Describes bytes (Err fault.NotJson)
+Refuses bytes (status.BadShape path) = Describes bytes (Err (fault.BadShape path))
+Refuses bytes (status.BadMachine bad) = Describes bytes (Err (fault.BadMachine bad))
+Refuses bytes (status.TooLong weight) = Describes bytes (Err (fault.TooLong weight))
+Refuses bytes status.NotBuilt = (m : MachineData) × Describes bytes (Ok m) × (is_built m ≡ false)
+Refuses bytes status.Memory = Unit {0}
+Refuses bytes _ = ⊥
 
 -- The cause of each status that rests on the bytes which were read, and what the sink then holds.
 abbrev pub FromBytes : List ℕ → (sink_kept : Type 0) → (held held' : Option (List ℕ)) → Status → Type 0
 FromBytes bytes sink_kept held held' status.Ok = (m : MachineData) × (history : List Entry) × Ran bytes m history × Appends held held' (text m history)
 FromBytes bytes sink_kept held held' status.WriteFault = (m : MachineData) × (history : List Entry) × Ran bytes m history × AddsFront held held' (text m history)
-FromBytes bytes sink_kept held held' status.NotJson = sink_kept × ((d : Data) → IsJson bytes d → ⊥)
-FromBytes bytes sink_kept held held' status.NotBuilt = sink_kept × ((d : Data) × IsJson bytes d × (machine_in d ≡ None))
-FromBytes bytes sink_kept held held' status.Memory = sink_kept
-FromBytes bytes sink_kept held held' _ = ⊥
+FromBytes bytes sink_kept held held' s = sink_kept × Refuses bytes s
 
 -- The cause of each status, and what it left of the source's bytes and in the sink.
 abbrev pub Answers : List (String Global) → (source_kept sink_kept : Type 0) → (left left' held held' : Option (List ℕ)) → Status → Type 0
@@ -59,15 +72,19 @@ Answers words source_kept sink_kept left left' held held' status.TooLarge = IsRu
 Answers words source_kept sink_kept left left' held held' status.Memory = IsRun words × sink_kept × TakesUpTo limit left left'
 Answers words source_kept sink_kept left left' held held' s = IsRun words × ((bytes : List ℕ) × ReadsWhole left left' bytes × FromBytes bytes sink_kept held held' s)
 
--- The word is `run`, the source gives a description of a machine, and no fault rose: then the status is Ok, or Memory.
+-- The word is `run`, the source gives a description of a machine, and neither count of faults rose: then the status is Ok,
+-- or Memory.
 abbrev pub Completes : List (String Global) → Option (List ℕ) → (read_rose write_rose : Type 0) → Status → Type 0
-Completes words left read_rose write_rose s = (bytes : List ℕ) (m : MachineData) → IsRun words → left ≡ Some bytes → length bytes ≤ limit → Describes bytes m → (read_rose → ⊥) → (write_rose → ⊥) → (s ≡ status.Ok) ⊎ (s ≡ status.Memory)
+Completes words left read_rose write_rose s = (bytes : List ℕ) (m : MachineData) → IsRun words → left ≡ Some bytes → length bytes ≤ limit → Describes bytes (Ok m) → is_built m ≡ true → (read_rose → ⊥) → (write_rose → ⊥) → (s ≡ status.Ok) ⊎ (s ≡ status.Memory)
 
 -- the number with which the process ends
 abbrev pub code_of : Status → ℕ
 code_of status.Ok = 0
 code_of status.Usage = 2
 code_of status.NotJson = 3
+code_of (status.BadShape path) = 3
+code_of (status.BadMachine bad) = 3
+code_of (status.TooLong weight) = 4
 code_of status.NotBuilt = 12
 code_of status.ReadFault = 5
 code_of status.WriteFault = 6

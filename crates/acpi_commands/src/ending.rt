@@ -1,41 +1,114 @@
-ghost use Rattle.std.specs.Prelude.{◌≡◌};
+ghost use Rattle.std.specs.Prelude.{◌≡◌, ◌≤◌, ◌++◌, ◌∷◌, OnErr, OnOk};
 ghost use Rattle.std.specs.Process.{exit_status};
 ghost use Rattle.std.specs.Io.KnownBytes.{Appends};
-ghost use Rattle.acpi_io.specs.Faults.{Rose};
-ghost use Rattle.acpi_io.specs.Sink.{AddsFront};
-ghost use Rattle.acpi_commands.specs.Ending.{error_line};
+ghost use Rattle.acpi_io.specs.Faults.{RoseByOne};
+ghost use Rattle.acpi_io.specs.Sink.{AddsFront, WritesAll};
+ghost use Rattle.acpi_commands.specs.Ending.{carried, error_line, status_line};
 ghost use Rattle.acpi_commands.specs.Run.{code_of};
+ghost use Rattle.acpi_commands.specs.Written.{GoesOn};
 
+use crate::history_text::{Line, Pieces};
+use crate::names::{name_of, part_name, rule_name};
 use crate::status::Status;
-use acpi_io::{Sink, write_all};
+use acpi_io::{Sink, WriteFault};
+use machine_desc::BadMachine;
+use machine_reader::PathText;
+use std::fmt;
 use std::process::ExitCode;
 
-/// Ends a call of the program: tells a refusal on `errors`, in a line with the name of the status, and gives the
-/// exit code. Of `Ok` it says nothing. Where the line can't be written, the number still tells the status.
+/// Ends a call of the program: tells a refusal on `errors`, in a line with the name of the status and what it carries, and
+/// gives the exit code. Of `Ok` it says nothing. Where the line can't be written, the number still tells the status.
 pub fn end<K: Sink>(status: &Status, errors: &mut K) -> ExitCode
     ensures code { exit_status result ≡ code_of status.now }
     ensures said { AddsFront (K.held errors.old) (K.held errors.new) (error_line status.now) }
 
     // All of the line, where no write failed.
-    ensures whole { ¬ Rose (K.faults errors.old) (K.faults errors.new)
+    ensures whole { ¬ RoseByOne (K.faults errors.old) (K.faults errors.new)
         → Appends (K.held errors.old) (K.held errors.new) (error_line status.now) }
 {
-    let _ = write_all(errors, line_of(status));
+    let _ = tell(status, errors);
     ExitCode::from(status.code())
 }
 
-/// What is said of a status.
-fn line_of(status: &Status) -> &'static [u8]
-    ensures { result.now ≡ error_line status.now }
+/// Writes the line of a status.
+fn tell<K: Sink>(status: &Status, errors: &mut K) -> Result<(), WriteFault>
+    ensures ends { WritesAll (K.held errors.old) (K.held errors.new) (error_line status.now) result }
+    ensures cause { OnErr result (RoseByOne (K.faults errors.old) (K.faults errors.new)) }
+    ensures told { OnOk result (K.faults errors.new ≡ K.faults errors.old) }
 {
     match status {
-        Status::Ok => b"",
-        Status::Usage => b"acpi_events: Usage\n",
-        Status::NotJson => b"acpi_events: NotJson\n",
-        Status::NotBuilt => b"acpi_events: NotBuilt\n",
-        Status::ReadFault => b"acpi_events: ReadFault\n",
-        Status::WriteFault => b"acpi_events: WriteFault\n",
-        Status::Memory => b"acpi_events: Memory\n",
-        Status::TooLarge => b"acpi_events: TooLarge\n",
+        Status::Ok => Ok(()),
+        _ => tell_refusal(status, errors),
     }
+}
+
+/// Writes the line of a status that is no `Ok`.
+fn tell_refusal<K: Sink>(status: &Status, errors: &mut K) -> Result<(), WriteFault>
+    ensures ends { WritesAll (K.held errors.old) (K.held errors.new) (status_line status.now) result }
+    ensures cause { OnErr result (RoseByOne (K.faults errors.old) (K.faults errors.new)) }
+    ensures told { OnOk result (K.faults errors.new ≡ K.faults errors.old) }
+{
+    let mut pieces = Pieces::new();
+    pieces.put(errors, b"acpi_events: ")?;
+    pieces.put(errors, name_of(status).as_bytes())?;
+    put_carried(&mut pieces, errors, status)?;
+    pieces.put(errors, b"\n")?;
+    pieces.finish(errors)
+}
+
+/// Puts what a status carries behind what waits, after a space.
+fn put_carried<K: Sink>(
+    pieces: &mut Pieces,
+    errors: &mut K,
+    status: &Status,
+) -> Result<(), WriteFault>
+    ensures goes_on { GoesOn (K.held errors.old) (K.held errors.new)
+        (pieces.old ++ carried status.now) pieces.new result }
+    ensures cause { OnErr result (RoseByOne (K.faults errors.old) (K.faults errors.new)) }
+    ensures told { OnOk result (K.faults errors.new ≡ K.faults errors.old) }
+{
+    match status {
+        Status::BadShape(path) => put_path(pieces, errors, path),
+        Status::BadMachine(bad) => pieces.put(errors, Line::of_bad_machine(bad).as_slice()),
+        Status::TooLong(weight) => pieces.put(errors, Line::of_weight(*weight).as_slice()),
+        _ => Ok(()),
+    }
+}
+
+/// Puts a space and a path behind what waits.
+fn put_path<K: Sink>(pieces: &mut Pieces, errors: &mut K, path: &PathText) -> Result<(), WriteFault>
+    ensures goes_on { GoesOn (K.held errors.old) (K.held errors.new)
+        (pieces.old ++ 32 ∷ path.now) pieces.new result }
+    ensures cause { OnErr result (RoseByOne (K.faults errors.old) (K.faults errors.new)) }
+    ensures told { OnOk result (K.faults errors.new ≡ K.faults errors.old) }
+{
+    pieces.put(errors, b" ")?;
+    pieces.put(errors, path.as_bytes())
+}
+
+/// The name of the status, and what it carries after a space.
+impl fmt::Display for Status {
+    fn fmt<W: fmt::Write>(&self, f: &mut fmt::Formatter<W>) -> fmt::Result {
+        f.write_str(name_of(self))?;
+        match self {
+            Status::BadShape(path) => write_path(f, path),
+            Status::BadMachine(bad) => write_bad_machine(f, bad),
+            Status::TooLong(weight) => write!(f, " {weight}"),
+            _ => Ok(()),
+        }
+    }
+}
+
+fn write_path<W: fmt::Write>(f: &mut fmt::Formatter<W>, path: &PathText) -> fmt::Result {
+    f.write_char(' ')?;
+    for byte in path.as_bytes() {
+        f.write_char(char::from(*byte))?;
+    }
+    Ok(())
+}
+
+fn write_bad_machine<W: fmt::Write>(f: &mut fmt::Formatter<W>, bad: &BadMachine) -> fmt::Result {
+    let rule = rule_name(bad.rule);
+    let part = part_name(bad.place.part);
+    write!(f, " {rule} {part} {} {}", bad.place.index, bad.place.op)
 }

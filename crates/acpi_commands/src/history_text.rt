@@ -7,4 +7,6 @@ mod line;
 mod log;
 mod pieces;
 
+pub use line::Line;
 pub use log::write_log;
+pub use pieces::Pieces;

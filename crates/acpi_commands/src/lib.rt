@@ -4,14 +4,16 @@
 //! All of it stands in [`acpi_events`], a call over any source and sink whose contract says what each status means
 //! (`specs/Run.antt`). [`end`] then tells a refusal and gives the exit code (`specs/Ending.antt`). The program's
 //! `main`, which hands these the words and the standard streams, is a crate of its own. The crate stands on
-//! `machine_core`, `machine_desc`, `acpi_io` and `acpi_regs`. Its reader of descriptions (`specs/Description.antt`,
-//! `specs/Canonical.antt`) and its log text (`specs/Text.antt`) are modules of their own.
+//! `machine_reader`, which reads descriptions and writes them, on `machine_core`, whose board keeps the history legal,
+//! and on `acpi_io`. Which machines run by now is `specs/Built.antt`. The log's text (`specs/Text.antt`) is a module of
+//! its own.
 #![tactic(auto)]
 
+mod built;
 mod ending;
 mod history_text;
 pub mod laws;
-mod machine_reader;
+mod names;
 mod play;
 mod prepared;
 mod program;

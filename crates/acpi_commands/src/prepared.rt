@@ -1,5 +1,6 @@
-ghost use Rattle.std.specs.Prelude.{◌≡◌};
-ghost use Rattle.acpi_commands.specs.Canonical.{canonical};
+ghost use Rattle.std.specs.Prelude.{◌≡◌, true};
+ghost use Rattle.machine_reader.specs.Canonical.{canonical};
+ghost use Rattle.acpi_commands.specs.Built.{is_built};
 
 use machine_core::Board;
 
@@ -9,4 +10,5 @@ pub struct Prepared {
     pub board: Board,
     pub text: Vec<u8>,
     ghost canonical_text: { text.items ≡ canonical board.machine },
+    ghost built: { is_built board.machine ≡ true },
 }

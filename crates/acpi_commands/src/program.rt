@@ -1,5 +1,5 @@
 ghost use Rattle.std.specs.Prelude.{◌≡◌, ◌+◌, ◌≤◌, ◌↔◌, IsTrue};
-ghost use Rattle.acpi_io.specs.Faults.{Rose};
+ghost use Rattle.acpi_io.specs.Faults.{RoseByOne};
 ghost use Rattle.acpi_commands.specs.Run.{Answers, Completes, IsRun, limit};
 
 use crate::run::run;
@@ -14,9 +14,10 @@ const MAX_DESCRIPTION: usize = 4_194_304;
 ///
 /// The one command is `run`: it reads a description from the source, runs its machine, and writes the log of what
 /// happened to the sink. Refusals come in this order: `Usage`; `ReadFault` or `TooLarge`, as the reading meets them;
-/// `NotJson`; `NotBuilt`; `WriteFault`. `Memory` may come in place of each but `Usage`, before the machine runs, and only
-/// where the word is `run`, no read failed and no more bytes were taken than a description may have. After every
-/// refusal but `WriteFault` nothing was written, and after that one a front of the log was.
+/// `NotJson`; `BadShape`; `BadMachine`; `TooLong`; `NotBuilt`; `WriteFault`. `Memory` may come in place of each but
+/// `Usage`, before the machine runs, and only where the word is `run`, no read failed and no more bytes were taken than a
+/// description may have. After every refusal but `WriteFault` nothing was written, and after that one a front of the log
+/// was.
 pub fn acpi_events<S: Source, K: Sink>(
     alloc: Global,
     words: &[String],
@@ -26,11 +27,11 @@ pub fn acpi_events<S: Source, K: Sink>(
     ensures answers { Answers words.now (source.new ≡ source.old) (sink.new ≡ sink.old)
         (S.left source.old) (S.left source.new) (K.held sink.old) (K.held sink.new) result }
 
-    // A fault comes only where its count rose in this call.
+    // A fault comes only where its count rose in this call, by exactly one.
     ensures read_fault { result ≡ Status.ReadFault
-        → Rose (S.faults source.old) (S.faults source.new) }
+        → RoseByOne (S.faults source.old) (S.faults source.new) }
     ensures write_fault { result ≡ Status.WriteFault
-        → Rose (K.faults sink.old) (K.faults sink.new) }
+        → RoseByOne (K.faults sink.old) (K.faults sink.new) }
 
     // Each fault is told: where another status is answered, none came.
     ensures read_told { ¬ result ≡ Status.ReadFault
@@ -40,8 +41,8 @@ pub fn acpi_events<S: Source, K: Sink>(
 
     // What is accepted is run, where memory suffices.
     ensures completes { Completes words.now (S.left source.old)
-        (Rose (S.faults source.old) (S.faults source.new))
-        (Rose (K.faults sink.old) (K.faults sink.new)) result }
+        (RoseByOne (S.faults source.old) (S.faults source.new))
+        (RoseByOne (K.faults sink.old) (K.faults sink.new)) result }
 
     ensures source_later { S.faults source.old ≤ S.faults source.new }
     ensures sink_later { K.faults sink.old ≤ K.faults sink.new }
@@ -60,9 +61,9 @@ fn answer<S: Source, K: Sink>(
     ensures answers { Answers words.now (source.new ≡ source.old) (sink.new ≡ sink.old)
         (S.left source.old) (S.left source.new) (K.held sink.old) (K.held sink.new) result }
     ensures read_fault { result ≡ Status.ReadFault
-        → Rose (S.faults source.old) (S.faults source.new) }
+        → RoseByOne (S.faults source.old) (S.faults source.new) }
     ensures write_fault { result ≡ Status.WriteFault
-        → Rose (K.faults sink.old) (K.faults sink.new) }
+        → RoseByOne (K.faults sink.old) (K.faults sink.new) }
     ensures read_told { ¬ result ≡ Status.ReadFault
         → S.faults source.new ≡ S.faults source.old }
     ensures write_told { ¬ result ≡ Status.WriteFault

@@ -1,7 +1,8 @@
 ghost use Rattle.std.specs.Prelude.{◌≡◌};
 ghost use Rattle.acpi_commands.specs.Run.{code_of};
 
-use std::fmt;
+use machine_desc::BadMachine;
+use machine_reader::PathText;
 
 /// What a call of the program came to.
 #[derive(Debug, Drop, PartialEq)]
@@ -12,7 +13,13 @@ pub enum Status {
     Usage,
     /// The bytes of the source are no JSON text.
     NotJson,
-    /// They are JSON, and not a description of the first form, the only one that is built today.
+    /// The value at this path has not the form that a description has there. It is the first such value.
+    BadShape(PathText),
+    /// The description breaks a rule of machines: the first.
+    BadMachine(BadMachine),
+    /// The machine's weight is this, which is above 1,048,576.
+    TooLong(u64),
+    /// The description is accepted, and the machine is not one that the program runs by now.
     NotBuilt,
     /// A read of the source failed.
     ReadFault,
@@ -32,28 +39,13 @@ impl Status {
         match self {
             Status::Ok => 0,
             Status::Usage => 2,
-            Status::NotJson => 3,
+            Status::NotJson | Status::BadShape(_) | Status::BadMachine(_) => 3,
+            Status::TooLong(_) => 4,
             Status::NotBuilt => 12,
             Status::ReadFault => 5,
             Status::WriteFault => 6,
             Status::Memory => 7,
             Status::TooLarge => 9,
         }
-    }
-}
-
-/// The name of the status.
-impl fmt::Display for Status {
-    fn fmt<W: fmt::Write>(&self, f: &mut fmt::Formatter<W>) -> fmt::Result {
-        f.write_str(match self {
-            Status::Ok => "Ok",
-            Status::Usage => "Usage",
-            Status::NotJson => "NotJson",
-            Status::NotBuilt => "NotBuilt",
-            Status::ReadFault => "ReadFault",
-            Status::WriteFault => "WriteFault",
-            Status::Memory => "Memory",
-            Status::TooLarge => "TooLarge",
-        })
     }
 }

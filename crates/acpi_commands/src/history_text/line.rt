@@ -1,9 +1,12 @@
 ghost use Rattle.std.specs.Prelude.{◌≡◌, ◌+◌, ◌<◌, ◌≤◌, [], ◌∷◌, ◌++◌, List, ℕ, length, decimal};
+ghost use Rattle.acpi_commands.specs.Ending.{bad_machine_text};
 ghost use Rattle.acpi_commands.specs.Text.{digit_text, byte_text, cell_text, actor_text, deed_text, entry_line, rest_line};
 
+use crate::names::{part_name, rule_name};
 use acpi_regs::{Actor, Cell, Deed, Entry};
 use arrayvec::ArrayVec;
 use itoa::Buffer;
+use machine_desc::BadMachine;
 use std::marker::Model;
 
 /// The most bytes that a line of an entry or of a number has.
@@ -29,6 +32,33 @@ impl Line {
         Line {
             bytes: ArrayVec::new(),
         }
+    }
+
+    /// A space, and what is said of a machine that breaks a rule.
+    pub fn of_bad_machine(bad: &BadMachine) -> Line
+        ensures { result ≡ 32 ∷ bad_machine_text bad.now }
+    {
+        let mut line = Line::new();
+        line.push(b' ');
+        line.push_text(rule_name(bad.rule).as_bytes());
+        line.push(b' ');
+        line.push_text(part_name(bad.place.part).as_bytes());
+        line.push(b' ');
+        line.push_number(bad.place.index);
+        line.push(b' ');
+        line.push_number(bad.place.op);
+        line
+    }
+
+    /// A space, and a weight in decimal.
+    pub fn of_weight(weight: u64) -> Line
+        ensures { result ≡ 32 ∷ decimal weight }
+    {
+        let mut digits = Buffer::new();
+        let mut line = Line::new();
+        line.push(b' ');
+        line.push_text(digits.format(weight).as_bytes());
+        line
     }
 
     /// The bytes of the line.

@@ -1,5 +1,5 @@
 ghost use Rattle.std.specs.Prelude.{◌≡◌, ◌≤◌, ◌++◌, OnErr, OnOk};
-ghost use Rattle.acpi_io.specs.Faults.{Rose};
+ghost use Rattle.acpi_io.specs.Faults.{RoseByOne};
 ghost use Rattle.acpi_io.specs.Sink.{WritesAll};
 ghost use Rattle.acpi_commands.specs.Text.{entry_lines, log_text, machine_line};
 ghost use Rattle.acpi_commands.specs.Written.{GoesOn};
@@ -21,7 +21,7 @@ pub fn write_log<K: Sink>(
     ensures ends { WritesAll (K.held sink.old) (K.held sink.new)
         (log_text machine_text.now board.now.entries) result }
     ensures later { K.faults sink.old ≤ K.faults sink.new }
-    ensures cause { OnErr result (Rose (K.faults sink.old) (K.faults sink.new)) }
+    ensures cause { OnErr result (RoseByOne (K.faults sink.old) (K.faults sink.new)) }
     ensures told { OnOk result (K.faults sink.new ≡ K.faults sink.old) }
 {
     let mut pieces = Pieces::new();
@@ -40,7 +40,7 @@ fn put_machine<K: Sink>(
     ensures goes_on { GoesOn (K.held sink.old) (K.held sink.new)
         (pieces.old ++ machine_line machine_text.now) pieces.new result }
     ensures later { K.faults sink.old ≤ K.faults sink.new }
-    ensures cause { OnErr result (Rose (K.faults sink.old) (K.faults sink.new)) }
+    ensures cause { OnErr result (RoseByOne (K.faults sink.old) (K.faults sink.new)) }
     ensures told { OnOk result (K.faults sink.new ≡ K.faults sink.old) }
 {
     pieces.put(sink, b"machine ")?;
@@ -53,7 +53,7 @@ fn put_entries<K: Sink>(pieces: &mut Pieces, sink: &mut K, board: &Board) -> Res
     ensures goes_on { GoesOn (K.held sink.old) (K.held sink.new)
         (pieces.old ++ entry_lines board.now.entries) pieces.new result }
     ensures later { K.faults sink.old ≤ K.faults sink.new }
-    ensures cause { OnErr result (Rose (K.faults sink.old) (K.faults sink.new)) }
+    ensures cause { OnErr result (RoseByOne (K.faults sink.old) (K.faults sink.new)) }
     ensures told { OnOk result (K.faults sink.new ≡ K.faults sink.old) }
 {
     for i in 0..board.len() {

@@ -1,5 +1,5 @@
 ghost use Rattle.std.specs.Prelude.{◌≡◌, ◌+◌, ◌≤◌, ℕ, [], ◌++◌, List, length, OnErr, OnOk};
-ghost use Rattle.acpi_io.specs.Faults.{Rose};
+ghost use Rattle.acpi_io.specs.Faults.{RoseByOne};
 ghost use Rattle.acpi_io.specs.Sink.{WritesAll};
 ghost use Rattle.acpi_commands.specs.Written.{GoesOn};
 ghost use Rattle.acpi_commands.specs.declared.history_text.pieces.TheConstants.{PIECE_LEN};
@@ -46,7 +46,7 @@ impl Pieces {
         ensures goes_on { GoesOn (K.held sink.old) (K.held sink.new)
             (self.old ++ text.now) self.new result }
         ensures later { K.faults sink.old ≤ K.faults sink.new }
-        ensures cause { OnErr result (Rose (K.faults sink.old) (K.faults sink.new)) }
+        ensures cause { OnErr result (RoseByOne (K.faults sink.old) (K.faults sink.new)) }
         ensures told { OnOk result (K.faults sink.new ≡ K.faults sink.old) }
     {
         let mut rest = text;
@@ -65,7 +65,7 @@ impl Pieces {
         ensures goes_on { GoesOn (K.held sink.old) (K.held sink.new)
             (self.old ++ text.now) self.new result }
         ensures later { K.faults sink.old ≤ K.faults sink.new }
-        ensures cause { OnErr result (Rose (K.faults sink.old) (K.faults sink.new)) }
+        ensures cause { OnErr result (RoseByOne (K.faults sink.old) (K.faults sink.new)) }
         ensures told { OnOk result (K.faults sink.new ≡ K.faults sink.old) }
     {
         self.waiting.try_extend_from_slice(text).unwrap();
@@ -81,7 +81,7 @@ impl Pieces {
     pub fn finish<K: Sink>(self, sink: &mut K) -> Result<(), WriteFault>
         ensures ends { WritesAll (K.held sink.old) (K.held sink.new) self result }
         ensures later { K.faults sink.old ≤ K.faults sink.new }
-        ensures cause { OnErr result (Rose (K.faults sink.old) (K.faults sink.new)) }
+        ensures cause { OnErr result (RoseByOne (K.faults sink.old) (K.faults sink.new)) }
         ensures told { OnOk result (K.faults sink.new ≡ K.faults sink.old) }
     {
         write_all(sink, self.waiting.as_slice())

@@ -1,9 +1,0 @@
-use Rattle.std.proofs.Common.{◌≡◌, length}
-use Rattle.acpi_commands.specs.Canonical.{without_zeros}
-use Rattle.acpi_commands.proofs.machine_reader.canonical.without_zeros.Given as goal
-
-abbrev pub invariant-loop-last : goal.invariant-loop-last
-invariant-loop-last l = without_zeros l.bytes ≡ without_zeros l.cells
-
-abbrev pub decreases-loop-last : goal.decreases-loop-last
-decreases-loop-last l = length l.bytes
