@@ -112,7 +112,8 @@ fn make(board: &mut Board, entry: Entry) -> Result<(), Fail> {
 #[test]
 fn two_scripts_go_act_by_act_to_their_end(rt: HostRuntime) -> Result<(), Fail> {
     let mut board = small_board(rt.alloc())?;
-    assert_eq!(rt; board.machine().weight(), 7);
+    // Two entries of the first script; a read, a write, and a read and a write of the second.
+    assert_eq!(rt; board.machine().weight(), 6);
     assert!(rt; board.is_empty());
     let entries = [
         by_firmware(1, Deed::Read(cell(1, 0), 195)),
