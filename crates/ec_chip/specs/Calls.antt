@@ -31,7 +31,7 @@ after_calls (call ∷ later) c = after_calls later (after_call call c)
 abbrev pub code : ℕ → List ℕ
 code q = if q == 0 then [] else q ∷ []
 
--- the byte that the controller puts out, if it puts one out
+-- the code that the controller puts out, if the byte is one
 abbrev pub put_out : Option Effect → List ℕ
 put_out (Some (effect.Out byte)) = code byte
 put_out _ = []

@@ -25,7 +25,7 @@ pub record IsUniform (price : Act → ℕ) : Type 0 where
   pub asks : (x y : ℕ) → price (act.Ask (request.Rd x)) ≡ price (act.Ask (request.Rd y))
   pub puts : (x y v w : ℕ) → price (act.Ask (request.Wr x v)) ≡ price (act.Ask (request.Wr y w))
 
--- how many of the bytes of a field from byte k on, `left` of them, are read before they are written
+-- how many of `left` bytes of a field, from byte k on, a write reads before it writes them
 abbrev pub partials_from : Field → ℕ → ℕ → ℕ
 partials_from field k zero = 0
 partials_from field k (suc left) = (if reads_first field k then 1 else 0) + partials_from field (k + 1) left

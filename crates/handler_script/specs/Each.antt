@@ -10,7 +10,7 @@ use Rattle.handler_script.specs.declared.op.Op.TheVariants as op
 use Rattle.handler_script.specs.Parts.{access_needs, bursts, read_act, write_act}
 use Rattle.handler_script.specs.Plan.{Plan, Do, End, plan}
 
--- whatever the acts are answered, this is true of each, given whether it needs the lock
+-- whatever the acts are answered, this is true of each, given whether the plan marks it as one that needs the lock
 abbrev pub Each : (Bool → Act → Bool) → Plan → Type 0
 Each P End = Unit {0}
 Each P (Do needs a next) = (P needs a ≡ true) × ((byte : ℕ) → Each P (next byte))

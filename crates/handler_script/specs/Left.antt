@@ -118,15 +118,15 @@ is_before _ = false
 abbrev pub is_new : Cursor → Bool
 is_new c = (c.op == 0) && (is_before c.place.stage && ((c.place.last == 0) && not c.held))
 
--- an act can stand where the cursor is; only a new one is at a skip
+-- it is placed, and only a new cursor is at a skip
 unfoldable pub stands : List Field → List Op → Cursor → Bool
 stands fields ops c = is_placed fields ops c && (is_new c || not (is_at_skip (slice_get ops c.op)))
 
--- the cursor stands at a place of the script, with some fields
+-- the cursor is at such a place, with some fields
 abbrev pub IsPlaced : List Op → Cursor → Type 0
 IsPlaced ops c = (fields : List Field) × (is_placed fields ops c ≡ true)
 
--- the script begins at this op: those before it are passed over by the skips at its begin, and it is none
+-- the script begins at this op: skips at its begin pass over those before it, and it is no skip itself
 pub record Begins (ops : List Op) (begin : ℕ) : Type 0 where
   pub within : begin ≤ length ops
   pub act : (o : Op) → slice_get ops begin ≡ Some o → is_skip o ≡ false

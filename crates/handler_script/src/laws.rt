@@ -44,8 +44,8 @@ pub fn law_each()
     ensures { IsTrueOfEach }
 {}
 
-/// Whatever its acts are answered, and whatever prices they have, an accepted script costs no more than the sum over its
-/// operations, passed over or not.
+/// Whatever its acts are answered, an accepted script costs no more than the sum over its operations, passed over or not, at
+/// any prices that do not depend on the place or the byte of an access.
 pub fn law_costs()
     ensures { CostsItsOps }
 {}
