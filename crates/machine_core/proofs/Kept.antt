@@ -1,14 +1,11 @@
 -- What a board keeps stays true when an allowed entry is appended.
 use Rattle.std.proofs.Common.{ℕ, zero, suc, get_or, ◌<◌, ◌≤◌, ◌≡◌, Bool, true, false, cond, List, [], ◌∷◌, ◌++◌, length, map, reverse, slice_get, unwrap_or, Option, Some, None, MatchOption, is_some, refl, sym, ap, ◌∙◌, subst, arith}
 use Rattle.std.proofs.lemmas.List.{length-append, reverse-append}
-use Rattle.acpi_regs.specs.declared.actor.Actor.{Actor}
 use Rattle.acpi_regs.specs.declared.actor.Actor.TheVariants as actor
 use Rattle.acpi_regs.specs.declared.entry.Cell.{Cell}
-use Rattle.acpi_regs.specs.declared.entry.Deed.{Deed}
 use Rattle.acpi_regs.specs.declared.entry.Entry.{Entry}
 use Rattle.acpi_regs.specs.Actor.{same_actor}
 use Rattle.field_units.specs.Field.{RegionData}
-use Rattle.handler_script.specs.declared.act.Act.{Act}
 use Rattle.handler_script.specs.declared.cursor.Cursor.{Cursor}
 use Rattle.handler_script.specs.Acts.{brings}
 use Rattle.handler_script.specs.Plan.{Plan, next_act, plan_after}
@@ -16,7 +13,7 @@ use Rattle.machine_desc.specs.Machine.{MachineData}
 use Rattle.machine_desc.specs.Kept.{IsMachine}
 use Rattle.machine_desc.specs.Weight.{weight_of}
 use Rattle.machine_core.specs.Board.{IsKept, Passing, Stand, left_by, left_of}
-use Rattle.machine_core.specs.Cells.{IsCell, IsIn, byte_at, byte_in, cells_in, first_byte, first_bytes}
+use Rattle.machine_core.specs.Cells.{IsIn, byte_at, byte_in, cells_in, first_bytes}
 use Rattle.machine_core.specs.Legal.{Allowed, Legal, LegalPast}
 use Rattle.machine_core.specs.Scripts.{answer_of, byte_answered, first_left, left_after, plan_left}
 use Rattle.machine_core.specs.Values.{deed_access, value_after}

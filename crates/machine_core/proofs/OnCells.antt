@@ -1,5 +1,5 @@
 -- Every act of a machine's scripts that reads or writes a cell is on a cell of the machine.
-use Rattle.std.proofs.Common.{ℕ, ◌+◌, ◌-◌, ◌*◌, ◌/◌, ◌<◌, ◌≤◌, ◌≡◌, arith, ◌||◌, if◌then◌else◌, Bool, true, false, cond, nat_lt, List, [], ◌∷◌, length, slice_get, Option, Some, None, reverse, refl, sym, ap, subst}
+use Rattle.std.proofs.Common.{ℕ, ◌+◌, ◌-◌, ◌*◌, ◌/◌, ◌<◌, ◌≤◌, ◌≡◌, arith, ◌||◌, if◌then◌else◌, Bool, true, false, cond, nat_lt, List, [], ◌∷◌, slice_get, Some, None, refl, subst}
 use Rattle.std.proofs.lemmas.Bool.{lt-ltb, ltb-false, ltb-true}
 use Rattle.acpi_regs.specs.declared.actor.Actor.{Actor}
 use Rattle.acpi_regs.specs.declared.actor.Actor.TheVariants as actor
@@ -24,7 +24,7 @@ use Rattle.machine_desc.specs.Machine.{MachineData}
 use Rattle.machine_desc.specs.Kept.{IsField, IsMachine}
 use Rattle.machine_desc.proofs.EachItem.{each_all}
 use Rattle.machine_core.specs.Cells.{IsCell, cells_in}
-use Rattle.machine_core.specs.Legal.{is_read, is_write}
+use Rattle.machine_core.specs.Legal.{is_read}
 use Rattle.machine_core.specs.Scripts.{answer_of, first_plan, left_after, next_of, passes, plan_left, script_of}
 use Rattle.machine_core.proofs.Steps.{reads_next, some-injective}
 

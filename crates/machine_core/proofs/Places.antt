@@ -1,5 +1,5 @@
 -- The cursor of a firmware, and the script in which it stands.
-use Rattle.std.proofs.Common.{ℕ, ◌<◌, ◌≡◌, Bool, true, List, [], length, get_or, slice_get, unwrap_or, Option, Some, None, refl, sym, ap, ◌∙◌, subst}
+use Rattle.std.proofs.Common.{ℕ, ◌<◌, ◌≡◌, true, List, length, get_or, slice_get, Option, Some, None, refl, sym, ap, ◌∙◌, subst}
 use Rattle.std.proofs.lemmas.Option.{get_or_from_slice_get, slice_get-get_or}
 use Rattle.field_units.specs.Field.{Field}
 use Rattle.handler_script.specs.declared.cursor.Cursor.{Cursor}

@@ -1,12 +1,11 @@
 -- Every legal history has at most as many entries as the machine's weight: what has passed of the scripts, and what their acts
 -- can still cost, is never more than the scripts cost.
-use Rattle.std.proofs.Common.{ℕ, zero, suc, ◌+◌, ◌<◌, ◌≤◌, ◌≡◌, ◌≢◌, ◌⊎◌, inl, inr, Bool, true, false, cond, List, [], ◌∷◌, length, map, sum_by, get_or, reverse, slice_get, unwrap_or, Option, Some, None, refl, sym, ap, ◌∙◌, subst, arith}
+use Rattle.std.proofs.Common.{ℕ, zero, suc, ◌+◌, ◌<◌, ◌≤◌, ◌≡◌, ◌≢◌, ◌⊎◌, inl, inr, Bool, true, false, cond, List, [], ◌∷◌, length, map, sum_by, get_or, reverse, slice_get, unwrap_or, Some, refl, sym, ap, ◌∙◌, subst, arith}
 use Rattle.std.proofs.Math.ListN.{length-set, set}
 use Rattle.std.proofs.lemmas.Bool.{cases_eq, eq-eqb, ne_eqb}
 use Rattle.std.proofs.lemmas.List.{get_or-set_other, get_or-set_same, length-map, length-reverse}
 use Rattle.std.proofs.lemmas.List.Sums.{sum-map, sum_by-set}
 use Rattle.std.proofs.lemmas.Option.{slice_get-get_or}
-use Rattle.acpi_regs.specs.declared.actor.Actor.{Actor}
 use Rattle.acpi_regs.specs.declared.actor.Actor.TheVariants as actor
 use Rattle.acpi_regs.specs.declared.actor.Side.TheVariants as side
 use Rattle.acpi_regs.specs.declared.entry.Deed.{Deed}
@@ -14,20 +13,19 @@ use Rattle.acpi_regs.specs.declared.entry.Deed.TheVariants as deed
 use Rattle.acpi_regs.specs.declared.entry.Entry.{Entry}
 use Rattle.acpi_regs.specs.Actor.{same_actor}
 use Rattle.handler_script.specs.declared.act.Act.{Act}
-use Rattle.handler_script.specs.declared.act.Act.TheVariants as act
 use Rattle.handler_script.specs.declared.op.Op.{Op}
 use Rattle.handler_script.specs.Accepts.{Accepted}
-use Rattle.handler_script.specs.Costs.{Costs, IsUniform, ops_cost}
-use Rattle.handler_script.specs.Plan.{Plan, Do, plan}
+use Rattle.handler_script.specs.Costs.{Costs, IsUniform}
+use Rattle.handler_script.specs.Plan.{Plan, Do}
 use Rattle.handler_script.proofs.Costs.{costs}
 use Rattle.machine_desc.specs.Machine.{MachineData}
 use Rattle.machine_desc.specs.Kept.{IsHandler, IsMachine}
 use Rattle.machine_desc.proofs.EachItem.{each_all}
 use Rattle.machine_desc.specs.Weight.{weight_of}
-use Rattle.machine_core.specs.Legal.{Allowed, Legal, LegalPast}
-use Rattle.machine_core.specs.Scripts.{act_passed, answer_of, first_left, left_after, passes, plan_left, script_of}
+use Rattle.machine_core.specs.Legal.{Legal, LegalPast}
+use Rattle.machine_core.specs.Scripts.{act_passed, answer_of, first_left, left_after, plan_left, script_of}
 use Rattle.machine_core.proofs.Sizes.{entries_price, firmware_within, script_cost}
-use Rattle.machine_core.proofs.Steps.{IsFirmware, Passes, allowed_passes, some-injective}
+use Rattle.machine_core.proofs.Steps.{Passes, allowed_passes, some-injective}
 
 abbrev total : List ℕ → ℕ
 total ns = sum_by (λ n. n) ns

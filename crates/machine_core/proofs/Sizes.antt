@@ -1,5 +1,5 @@
 -- What a script's acts cost in entries is no more than its size in the machine's weight.
-use Rattle.std.proofs.Common.{ℕ, zero, suc, ◌+◌, ◌*◌, ◌≤◌, ◌≡◌, Bool, true, false, cond, List, [], ◌∷◌, sum_by, Option, Some, None, slice_get, refl, sym, ap, ◌∙◌, subst, ◌&&◌, nat_lt, if◌then◌else◌, add-one, arith}
+use Rattle.std.proofs.Common.{ℕ, ◌+◌, ◌*◌, ◌≤◌, ◌≡◌, Bool, true, false, cond, List, [], ◌∷◌, sum_by, Option, Some, None, slice_get, refl, ◌&&◌, nat_lt, if◌then◌else◌, arith}
 use Rattle.std.proofs.lemmas.List.Sums.{sum_by-le-sum_by}
 use Rattle.std.proofs.Math.Nat.{mul-one}
 use Rattle.acpi_regs.specs.declared.entry.Request.{Request}
@@ -12,11 +12,11 @@ use Rattle.handler_script.specs.declared.act.Act.{Act}
 use Rattle.handler_script.specs.declared.act.Act.TheVariants as act
 use Rattle.handler_script.specs.declared.op.Op.{Op}
 use Rattle.handler_script.specs.declared.op.Op.TheVariants as op
-use Rattle.handler_script.specs.Costs.{bytes_cost, field_cost, op_cost, ops_cost, partials_from, reads_of, writes_of}
+use Rattle.handler_script.specs.Costs.{field_cost, op_cost, ops_cost, reads_of, writes_of}
 use Rattle.handler_script.specs.Left.{held_after}
-use Rattle.handler_script.specs.Parts.{bursts, read_in, reads_first, takes_lock, write_in}
+use Rattle.handler_script.specs.Parts.{bursts, read_in, takes_lock, write_in}
 use Rattle.machine_desc.specs.Machine.{MachineData}
-use Rattle.machine_desc.specs.Weight.{access_size, firmware_size, kept_bytes, one_if, op_size, script_size, size_from, weight_of}
+use Rattle.machine_desc.specs.Weight.{access_size, firmware_size, one_if, op_size, script_size, size_from, weight_of}
 use Rattle.machine_desc.specs.Weight as weight
 
 -- The entries that an act can bring: those of a lock episode at its begin, and those of a request.
@@ -34,28 +34,6 @@ entries_price (act.Ask r) = request_price r
 entries_price _ = 1
 
 -- ---- one op
-
-partials-kept : (f : Field) (k left n : ℕ) → k + left ≡ n → kept_bytes f k + partials_from f k left ≡ kept_bytes f n
-partials-kept f k zero n count = let same = ap (kept_bytes f) (sym (zero-sum k) ∙ count) in omega arith
-  where
-    zero-sum : (k : ℕ) → k + 0 ≡ k
-    zero-sum k = omega arith
-partials-kept f k (suc left) n count =
-    let rest = partials-kept f (k + 1) left n (omega arith) in
-    let next : kept_bytes f (k + 1) ≡ one_if (reads_first f k) + kept_bytes f k = ap (kept_bytes f) (add-one k) in
-    omega arith
-
-reads_same : (o : Op) (f : Field) → reads_of o f ≡ weight.reads_of f o
-reads_same (op.Read k) f = refl
-reads_same (op.Write k v) f = let kept = partials-kept f 0 (byte_count f) (byte_count f) (omega arith) in omega arith
-reads_same (op.Add k v) f = let kept = partials-kept f 0 (byte_count f) (byte_count f) (omega arith) in omega arith
-reads_same _ f = refl
-
-writes_same : (o : Op) (f : Field) → writes_of o f ≡ weight.writes_of f o
-writes_same (op.Read k) f = refl
-writes_same (op.Write k v) f = refl
-writes_same (op.Add k v) f = refl
-writes_same _ f = refl
 
 taken : (b : Bool) → cond b (8 + 0) 0 ≡ 8 * one_if b
 taken true = refl
@@ -83,7 +61,6 @@ field_within f held o =
     let lock = taken (takes_lock f held) in
     let bytes = accessed f.kind f (bursts f) (reads_of o f) (writes_of o f) in
     let plain = unburst f.kind (nat_lt 1 (byte_count f)) in
-    let sizes : access_size f.kind (bursts f) (reads_of o f) (writes_of o f) ≡ access_size f.kind (bursts f) (weight.reads_of f o) (weight.writes_of f o) = ap (λ r. access_size f.kind (bursts f) r (writes_of o f)) (reads_same o f) ∙ ap (access_size f.kind (bursts f) (weight.reads_of f o)) (writes_same o f) in
     omega arith
 
 named_within : (found : Option Field) (held : Bool) (o : Op) → field_cost entries_price o held found ≤ weight.size_on found held o

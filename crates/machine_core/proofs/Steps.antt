@@ -1,5 +1,5 @@
 -- What one allowed entry is: it passes the next act of a firmware of the machine.
-use Rattle.std.proofs.Common.{ℕ, ◌<◌, ◌≡◌, Bool, true, false, cond, eqb, List, [], ◌∷◌, length, slice_get, unwrap_or, Option, Some, None, is_some, refl, sym, ap, ◌∙◌, subst}
+use Rattle.std.proofs.Common.{ℕ, ◌<◌, ◌≡◌, Bool, true, false, cond, List, [], ◌∷◌, length, slice_get, unwrap_or, Some, None, is_some, refl, sym, ap, ◌∙◌}
 use Rattle.std.proofs.lemmas.Bool.{and_from, and_parts, eq-eqb, eqb-true, ltb-true}
 use Rattle.acpi_regs.specs.declared.actor.Actor.{Actor}
 use Rattle.acpi_regs.specs.declared.actor.Actor.TheVariants as actor
@@ -15,7 +15,7 @@ use Rattle.handler_script.specs.Plan.{Plan, Do, End, next_act, plan_after}
 use Rattle.machine_desc.specs.Machine.{MachineData}
 use Rattle.machine_core.specs.declared.rule.LogRule.{LogRule}
 use Rattle.machine_core.specs.Legal.{Allowed, conditions, first_failing, is_read, is_write, runs_scripts}
-use Rattle.machine_core.specs.Scripts.{act_passed, answer_of, byte_answered, first_plan, left_after, next_of, passes, plan_left}
+use Rattle.machine_core.specs.Scripts.{act_passed, answer_of, byte_answered, first_plan, left_after, passes, plan_left}
 use Rattle.machine_core.specs.Values.{same_cell}
 
 pub some-injective : {X : Type 0} (x y : X) → Some x ≡ Some y → x ≡ y

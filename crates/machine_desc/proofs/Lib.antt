@@ -3,4 +3,5 @@ pub mod Facts
 pub mod Forms
 pub mod Groups
 pub mod Order
+pub mod Partials
 pub mod Ruled

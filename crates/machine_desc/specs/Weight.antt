@@ -1,15 +1,15 @@
 -- The weight of a machine, which is to bound how many entries its history can have: sums over its description.
-use Rattle.std.specs.Prelude.{ℕ, zero, suc, ◌+◌, ◌*◌, Bool, false, ◌==◌, List, [], ◌∷◌, length, count_by, sum_by, Option, Some, None, is_some, if◌then◌else◌}
+use Rattle.std.specs.Prelude.{ℕ, ◌+◌, ◌*◌, Bool, false, ◌==◌, List, [], ◌∷◌, length, count_by, sum_by, Option, Some, None, is_some, if◌then◌else◌}
 use Rattle.acpi_regs.specs.declared.event.Event.{Event}
 use Rattle.acpi_regs.specs.Event.{gbl, same_event}
 use Rattle.field_units.specs.declared.rules.RegionKind.{RegionKind}
 use Rattle.field_units.specs.declared.rules.RegionKind.TheVariants as kind
-use Rattle.field_units.specs.Bits.{byte_count}
 use Rattle.field_units.specs.Field.{Field}
 use Rattle.handler_script.specs.declared.op.Op.{Op}
 use Rattle.handler_script.specs.declared.op.Op.TheVariants as op
+use Rattle.handler_script.specs.Costs.{reads_of, writes_of}
 use Rattle.handler_script.specs.Left.{field_named, held_after}
-use Rattle.handler_script.specs.Parts.{bursts, reads_first, takes_lock}
+use Rattle.handler_script.specs.Parts.{bursts, takes_lock}
 use Rattle.machine_desc.specs.declared.machine.ListedEvent.{ListedEvent}
 use Rattle.machine_desc.specs.declared.machine.Query.{Query}
 use Rattle.machine_desc.specs.declared.tally.Tally.{Tally}
@@ -21,23 +21,6 @@ abbrev pub one_if : Bool → ℕ
 one_if test = if test then 1 else 0
 
 -- ---- one operation
-
--- how many of the first n bytes of a field are read before they are written
-abbrev pub kept_bytes : Field → ℕ → ℕ
-kept_bytes f zero = 0
-kept_bytes f (suc k) = one_if (reads_first f k) + kept_bytes f k
-
--- byte reads and byte writes of an operation on a field
-abbrev pub reads_of : Field → Op → ℕ
-reads_of f (op.Read k) = byte_count f
-reads_of f (op.Write k v) = kept_bytes f (byte_count f)
-reads_of f (op.Add k v) = byte_count f + kept_bytes f (byte_count f)
-reads_of f _ = 0
-
-abbrev pub writes_of : Field → Op → ℕ
-writes_of f (op.Write k v) = byte_count f
-writes_of f (op.Add k v) = byte_count f
-writes_of f _ = 0
 
 -- entries and controller moves of byte reads and byte writes, in burst mode or not: 1 entry a byte in memory; in the
 -- controller's space 7 entries and 2 moves a read, 8 and 3 a write, 10 and 2 for burst mode
@@ -51,10 +34,10 @@ access_moves kind.Controller burst reads writes = 2 * reads + 3 * writes + 2 * o
 
 -- an operation on a field: 8 entries more where it takes the lock for itself
 abbrev pub field_size : Field → Bool → Op → ℕ
-field_size f held o = access_size f.kind (bursts f) (reads_of f o) (writes_of f o) + 8 * one_if (takes_lock f held)
+field_size f held o = access_size f.kind (bursts f) (reads_of o f) (writes_of o f) + 8 * one_if (takes_lock f held)
 
 abbrev pub field_moves : Field → Op → ℕ
-field_moves f o = access_moves f.kind (bursts f) (reads_of f o) (writes_of f o)
+field_moves f o = access_moves f.kind (bursts f) (reads_of o f) (writes_of o f)
 
 -- an operation on no field
 abbrev pub plain_size : Op → ℕ

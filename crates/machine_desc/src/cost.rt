@@ -2,6 +2,7 @@
 ghost use Rattle.std.specs.Prelude.{◌≡◌, ◌≤◌, Bool, Option, length};
 ghost use Rattle.field_units.specs.Bits.{byte_count};
 ghost use Rattle.field_units.specs.Field.{Field};
+ghost use Rattle.handler_script.specs.Costs.{partials, reads_of, writes_of};
 ghost use Rattle.handler_script.specs.Left.{field_named, held_after};
 ghost use Rattle.handler_script.specs.Parts.{bursts, takes_lock};
 ghost use Rattle.machine_desc.specs.Weight as weight;
@@ -25,8 +26,9 @@ pub fn one_if(test: bool) -> u64
 }
 
 /// How many bytes of a field are read before they are written.
-fn kept_bytes(field: &FieldUnit) -> u64
-    ensures value { result ≡ weight.kept_bytes field.now (byte_count field.now) }
+#[tactic(auto, using(crate::proofs::Partials::next_partial))]
+fn partials(field: &FieldUnit) -> u64
+    ensures value { result ≡ partials field.now }
     ensures small { result ≤ 9 }
 {
     field.law_fits();
@@ -49,20 +51,20 @@ fn bytes_of(field: &FieldUnit) -> u64
 
 /// Byte reads of an operation on a field.
 fn reads_of(field: &FieldUnit, op: Op) -> u64
-    ensures value { result ≡ weight.reads_of field.now op }
+    ensures value { result ≡ reads_of op field.now }
     ensures small { result ≤ 18 }
 {
     match op {
         Op::Read(_) => bytes_of(field),
-        Op::Write(..) => kept_bytes(field),
-        Op::Add(..) => bytes_of(field) + kept_bytes(field),
+        Op::Write(..) => partials(field),
+        Op::Add(..) => bytes_of(field) + partials(field),
         _ => 0,
     }
 }
 
 /// Byte writes of an operation on a field.
 fn writes_of(field: &FieldUnit, op: Op) -> u64
-    ensures value { result ≡ weight.writes_of field.now op }
+    ensures value { result ≡ writes_of op field.now }
     ensures small { result ≤ 9 }
 {
     match op {

@@ -1,5 +1,4 @@
-use Rattle.std.proofs.Common.{◌≡◌, List, length, reverse, arith, subst}
-use Rattle.machine_core.specs.Legal.{Legal}
+use Rattle.std.proofs.Common.{arith}
 use Rattle.machine_core.proofs.Kept.{kept_after, newest_allowed, passing, room_for}
 use Rattle.machine_core.proofs.board.Board.apply.Goals as goal
 
