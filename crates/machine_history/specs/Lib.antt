@@ -1,0 +1,9 @@
+pub mod Cells
+pub mod Complete
+pub mod Events
+pub mod Jobs
+pub mod Legal
+pub mod Machine
+pub mod Scripts
+pub mod Values
+pub mod Wire
