@@ -1,0 +1,10 @@
+pub mod Claims
+pub mod Codes
+pub mod Keeping
+pub mod Known
+pub mod Paying
+pub mod Prices
+pub mod Queries
+pub mod Stages
+pub mod Totals
+pub mod Wires
