@@ -1,10 +1,14 @@
+pub mod Actors
 pub mod Claims
 pub mod Codes
+pub mod JobCounts
 pub mod Keeping
 pub mod Known
+pub mod Locking
 pub mod Paying
 pub mod Prices
 pub mod Queries
+pub mod ScriptPrices
 pub mod Stages
 pub mod Totals
 pub mod Wires
