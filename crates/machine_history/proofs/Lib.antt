@@ -5,6 +5,7 @@ pub mod JobCounts
 pub mod Keeping
 pub mod Known
 pub mod Locking
+pub mod Machines
 pub mod Paying
 pub mod Prices
 pub mod Queries
