@@ -1,12 +1,11 @@
 -- The claims of an event are no more than what sets its status, an assert counted seventeen times.
-use Rattle.std.proofs.Common.{ℕ, ◌+◌, ◌-◌, ◌*◌, ◌<◌, ◌≤◌, ◌≡◌, Bool, true, false, cond, not, ◌&&◌, ◌||◌, min, nat_le, nat_lt, List, [], ◌∷◌, Option, Some, None, if◌then◌else◌, refl, sym, ap, ◌∙◌, subst, arith}
+use Rattle.std.proofs.Common.{ℕ, ◌+◌, ◌-◌, ◌*◌, ◌<◌, ◌≤◌, ◌≡◌, Bool, true, false, not, ◌&&◌, ◌||◌, min, nat_le, List, [], ◌∷◌, Option, Some, None, if◌then◌else◌, refl, sym, ap, ◌∙◌, subst, arith}
 use Rattle.std.proofs.lemmas.Bool.{and_parts, leb-false, ltb-true, not-true}
 use Rattle.acpi_regs.specs.declared.actor.Actor.{Actor}
 use Rattle.acpi_regs.specs.declared.actor.Side.{Side}
 use Rattle.acpi_regs.specs.declared.actor.Side.TheVariants as side
 use Rattle.acpi_regs.specs.declared.entry.Deed.{Deed}
 use Rattle.acpi_regs.specs.declared.entry.Deed.TheVariants as deed
-use Rattle.acpi_regs.specs.declared.entry.Effect.{Effect}
 use Rattle.acpi_regs.specs.declared.entry.Effect.TheVariants as effect
 use Rattle.acpi_regs.specs.declared.entry.Entry.{Entry}
 use Rattle.acpi_regs.specs.declared.event.Event.{Event}
@@ -26,7 +25,7 @@ use Rattle.machine_desc.specs.Kept.{listed_in, own_event}
 use Rattle.machine_desc.specs.Machine.{MachineData}
 use Rattle.machine_history.specs.declared.parts.Job.{Job}
 use Rattle.machine_history.specs.declared.parts.Touched.{Touched}
-use Rattle.machine_history.specs.Events.{does, does_to, is_loud, latches, leaves_codes, pending, slot, slot_after, touch_of, touched}
+use Rattle.machine_history.specs.Events.{does, does_to, is_loud, latches, pending, slot, slot_after, touch_of, touched}
 use Rattle.machine_history.specs.Jobs.{event_ended, jobs}
 use Rattle.machine_history.specs.Legal.{Allowed, LegalPast}
 use Rattle.machine_history.specs.Machine.{first_slot_of, is_own, names, pulses_of}

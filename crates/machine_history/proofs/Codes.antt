@@ -1,10 +1,9 @@
 -- Runs of query codes are no more than their pushes.
-use Rattle.std.proofs.Common.{ℕ, zero, suc, ◌+◌, ◌<◌, ◌≤◌, ◌≡◌, ◌==◌, ◌⊎◌, inl, inr, Bool, true, false, cond, not, ◌&&◌, List, [], ◌∷◌, ◌++◌, length, drop, slice_get, unwrap_or, Option, Some, None, is_some, if◌then◌else◌, refl, sym, ap, ◌∙◌, subst, arith}
-use Rattle.std.proofs.lemmas.Bool.{cases_Bool, eqb-true}
+use Rattle.std.proofs.Common.{ℕ, zero, suc, ◌+◌, ◌≤◌, ◌≡◌, ◌==◌, ◌⊎◌, inl, inr, Bool, true, false, not, ◌&&◌, List, [], ◌∷◌, length, drop, slice_get, unwrap_or, Option, Some, None, is_some, if◌then◌else◌, refl, sym, ap, ◌∙◌, subst, arith}
+use Rattle.std.proofs.lemmas.Bool.{eqb-true}
 use Rattle.acpi_regs.specs.declared.actor.Actor.{Actor}
 use Rattle.acpi_regs.specs.declared.entry.Deed.{Deed}
 use Rattle.acpi_regs.specs.declared.entry.Deed.TheVariants as deed
-use Rattle.acpi_regs.specs.declared.entry.Effect.{Effect}
 use Rattle.acpi_regs.specs.declared.entry.Effect.TheVariants as effect
 use Rattle.acpi_regs.specs.declared.entry.Entry.{Entry}
 use Rattle.acpi_regs.specs.declared.entry.HostMove.{HostMove}
@@ -12,7 +11,6 @@ use Rattle.acpi_regs.specs.declared.entry.Request.{Request}
 use Rattle.acpi_regs.specs.declared.entry.Request.TheVariants as request
 use Rattle.acpi_regs.specs.declared.event.Event.{Event}
 use Rattle.ec_chip.specs.Parts.{first_code}
-use Rattle.ec_driver.specs.declared.wire.Move.{Move}
 use Rattle.ec_driver.specs.declared.wire.Move.TheVariants as move
 use Rattle.ec_driver.specs.Wire.{carried, wire}
 use Rattle.machine_desc.specs.Machine.{MachineData}
@@ -23,9 +21,9 @@ use Rattle.machine_history.specs.Legal.{Allowed, LegalPast, is_ctl_move, is_host
 use Rattle.machine_history.specs.Machine.{is_own, lists}
 use Rattle.machine_history.specs.Values.{answer, blank, next_in, taking_in}
 use Rattle.machine_history.specs.Wire.{Open, asks_code, begun, codes, codes_after, is_query, moved, open_after, open_of, put_out}
-use Rattle.machine_history.proofs.Known.{hold, some-injective}
+use Rattle.machine_history.proofs.Known.{hold}
 use Rattle.machine_history.proofs.Prices.{charge, charged, pushes_price}
-use Rattle.machine_history.proofs.Queries.{is_out, is_qr_request, qr_move, query_out, unasked}
+use Rattle.machine_history.proofs.Queries.{is_qr_request, qr_move, unasked}
 use Rattle.machine_history.proofs.Totals.{Count, bounded, sum_of, sum_of-push, total}
 use Rattle.machine_history.proofs.Wires.{ctl_is, host_is}
 

@@ -1,18 +1,15 @@
 -- Jobs: what was started is no more than what was made, and what was finished no more than what was started.
-use Rattle.std.proofs.Common.{ℕ, zero, suc, ◌+◌, ◌<◌, ◌≤◌, ◌≡◌, ◌==◌, Bool, true, false, cond, ◌&&◌, nat_lt, List, [], ◌∷◌, ◌++◌, length, drop, slice_get, Option, Some, None, is_some, is_none, if◌then◌else◌, refl, sym, ap, ◌∙◌, subst, arith}
+use Rattle.std.proofs.Common.{ℕ, zero, suc, ◌+◌, ◌<◌, ◌≤◌, ◌≡◌, ◌==◌, true, ◌&&◌, nat_lt, List, [], ◌∷◌, ◌++◌, length, drop, slice_get, Option, Some, None, is_some, is_none, if◌then◌else◌, refl, sym, ap, subst, arith}
 use Rattle.std.proofs.lemmas.Bool.{and_parts, eqb-true, ltb-true}
 use Rattle.acpi_regs.specs.declared.actor.Actor.{Actor}
 use Rattle.acpi_regs.specs.declared.actor.Actor.TheVariants as actor
 use Rattle.acpi_regs.specs.declared.entry.Deed.{Deed}
 use Rattle.acpi_regs.specs.declared.entry.Deed.TheVariants as deed
 use Rattle.acpi_regs.specs.declared.entry.Entry.{Entry}
-use Rattle.acpi_regs.specs.Actor.{same_actor}
 use Rattle.machine_desc.specs.Machine.{MachineData}
 use Rattle.machine_history.specs.declared.parts.Job.{Job}
-use Rattle.machine_history.specs.Jobs.{and_job, jobs, made, made_by, running, running_after, starts, starts_after}
+use Rattle.machine_history.specs.Jobs.{and_job, jobs, made, running, running_after, starts}
 use Rattle.machine_history.specs.Legal.{Allowed, LegalPast, may_start, same_number}
-use Rattle.machine_history.specs.Wire.{codes, open_of}
-use Rattle.machine_history.proofs.Keeping.{start_free}
 use Rattle.machine_history.proofs.Known.{hold}
 use Rattle.machine_history.proofs.Paying.{started}
 use Rattle.machine_history.proofs.Stages.{by_own}

@@ -1,6 +1,6 @@
 -- What is kept of an actor that runs scripts: while it tries for the lock its next act is Lock, while its begin is open it is
 -- that request, and a worker without a job has nothing to do.
-use Rattle.std.proofs.Common.{ℕ, ◌≡◌, ◌==◌, Bool, true, false, cond, not, ◌&&◌, nat_lt, List, [], ◌∷◌, length, Option, Some, None, is_some, is_none, if◌then◌else◌, refl, sym, ap, ◌∙◌, subst}
+use Rattle.std.proofs.Common.{ℕ, ◌≡◌, ◌==◌, Bool, true, false, ◌&&◌, nat_lt, List, [], ◌∷◌, length, Option, Some, None, is_none, refl, sym, ap, ◌∙◌, subst}
 use Rattle.std.proofs.lemmas.Bool.{and_parts}
 use Rattle.acpi_regs.specs.declared.actor.Actor.{Actor}
 use Rattle.acpi_regs.specs.declared.actor.Actor.TheVariants as actor
@@ -15,11 +15,11 @@ use Rattle.handler_script.specs.declared.act.Act.TheVariants as act
 use Rattle.handler_script.specs.Plan.{Plan, End, next_act, plan_after}
 use Rattle.machine_desc.specs.Machine.{MachineData}
 use Rattle.machine_history.specs.Jobs.{jobs, running, running_after, starts}
-use Rattle.machine_history.specs.Legal.{Allowed, LegalPast, asked, asked_by, is_next, is_opener, is_worker, may_start}
-use Rattle.machine_history.specs.Scripts.{answer_of, first_plan, left_after, next_of, plan_left}
-use Rattle.machine_history.specs.Wire.{Open, begun, moved, open_after, open_of, put_out}
+use Rattle.machine_history.specs.Legal.{Allowed, LegalPast, asked, asked_by, is_opener, is_worker, may_start}
+use Rattle.machine_history.specs.Scripts.{first_plan, left_after, next_of, plan_left}
+use Rattle.machine_history.specs.Wire.{Open, moved, open_after, open_of, put_out}
 use Rattle.machine_history.proofs.Known.{hold, is_none-none, same_actor-true, same_request-true, same_self}
-use Rattle.machine_history.proofs.Stages.{Follows, Stage, Away, Owned, follows_own, is_trying_at, stage, stage_after}
+use Rattle.machine_history.proofs.Stages.{Follows, Stage, follows_own, is_trying_at, stage, stage_after}
 
 -- ---- what a deed asks for
 

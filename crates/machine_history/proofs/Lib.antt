@@ -1,4 +1,5 @@
 pub mod Actors
+pub mod Adding
 pub mod Claims
 pub mod Codes
 pub mod JobCounts
@@ -12,4 +13,5 @@ pub mod Queries
 pub mod ScriptPrices
 pub mod Stages
 pub mod Totals
+pub mod Whole
 pub mod Wires

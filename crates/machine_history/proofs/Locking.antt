@@ -1,26 +1,24 @@
 -- Entries of the lock: seeks, episodes, wokens and claims of the lock's event come to eight a seek, and three for what raises
 -- the event.
-use Rattle.std.proofs.Common.{ℕ, ◌+◌, ◌*◌, ◌≤◌, ◌≡◌, ◌⊎◌, inl, inr, Bool, true, false, cond, not, ◌&&◌, List, [], ◌∷◌, Option, Some, None, if◌then◌else◌, refl, sym, ap, ◌∙◌, subst, arith}
-use Rattle.std.proofs.lemmas.Bool.{and_parts, or_left, or_right}
+use Rattle.std.proofs.Common.{ℕ, ◌+◌, ◌*◌, ◌≤◌, ◌≡◌, ◌⊎◌, inl, inr, Bool, true, false, List, [], ◌∷◌, Option, Some, None, if◌then◌else◌, refl, arith}
+use Rattle.std.proofs.lemmas.Bool.{or_left, or_right}
 use Rattle.acpi_regs.specs.declared.actor.Actor.{Actor}
 use Rattle.acpi_regs.specs.declared.actor.Side.{Side}
 use Rattle.acpi_regs.specs.declared.actor.Side.TheVariants as side
 use Rattle.acpi_regs.specs.declared.entry.Deed.{Deed}
 use Rattle.acpi_regs.specs.declared.entry.Deed.TheVariants as deed
 use Rattle.acpi_regs.specs.declared.entry.Entry.{Entry}
-use Rattle.acpi_regs.specs.declared.event.Event.{Event}
 use Rattle.acpi_regs.specs.Actor.{is_side, side_of, stands_on}
-use Rattle.acpi_regs.specs.Event.{gbl, is_gbl, same_event}
+use Rattle.acpi_regs.specs.Event.{gbl, is_gbl}
 use Rattle.acpi_regs.specs.Lock.{wake, wake_after}
 use Rattle.machine_desc.specs.Machine.{MachineData}
-use Rattle.machine_history.specs.Legal.{Allowed, LegalPast, has_quit, is_firmware, is_leave, is_seeker, is_worker, runs_scripts, woken_on}
+use Rattle.machine_history.specs.Legal.{Allowed, LegalPast, is_firmware, is_worker, runs_scripts, woken_on}
 use Rattle.machine_history.specs.Machine.{is_own}
-use Rattle.machine_history.specs.Wire.{open_of}
-use Rattle.machine_history.proofs.Actors.{ByScripts, over, over-le, over_within, within_over}
-use Rattle.machine_history.proofs.Claims.{claims_within, few_latches, is_signal, latch_in, sets_in, signal_of, takes}
+use Rattle.machine_history.proofs.Actors.{ByScripts, over-le, over_within, within_over}
+use Rattle.machine_history.proofs.Claims.{claims_within, is_signal, latch_in, sets_in, signal_of, takes}
 use Rattle.machine_history.proofs.JobCounts.{few_finishes, is_finish, is_start}
 use Rattle.machine_history.proofs.Known.{hold}
-use Rattle.machine_history.proofs.Prices.{charge, charged, lifts}
+use Rattle.machine_history.proofs.Prices.{charged, lifts}
 use Rattle.machine_history.proofs.Stages.{episodes, few_leaves, is_episode, is_left, is_seek, is_woken}
 use Rattle.machine_history.proofs.Totals.{Count, bounded, by_deed, one, own, total, total-le, total-le_all, total-plus, when}
 

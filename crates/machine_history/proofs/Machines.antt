@@ -1,8 +1,7 @@
 -- What the counts need of a machine, from the rules of its description.
-use Rattle.std.proofs.Common.{ℕ, zero, suc, ◌+◌, ◌*◌, ◌<◌, ◌≤◌, ◌≡◌, ◌⊎◌, inl, inr, Bool, true, false, cond, not, ◌&&◌, ◌||◌, nat_eq, All, List, [], ◌∷◌, length, map, sum_by, count_by, Option, Some, None, is_some, slice_get, unwrap_or, if◌then◌else◌, refl, sym, ap, ◌∙◌, subst, arith}
+use Rattle.std.proofs.Common.{ℕ, zero, suc, ◌+◌, ◌≤◌, ◌≡◌, Bool, true, false, cond, not, ◌&&◌, ◌||◌, nat_eq, List, [], ◌∷◌, length, count_by, Option, Some, None, is_some, slice_get, unwrap_or, if◌then◌else◌, refl, sym, ap, ◌∙◌, subst, arith}
 use Rattle.std.specs.List.{list_any}
-use Rattle.std.proofs.lemmas.Bool.{and_parts, cases_Bool, false_from_ne_true, not-false, not-true, or_left, or_parts, or_right}
-use Rattle.std.proofs.lemmas.Option.{slice_get_within}
+use Rattle.std.proofs.lemmas.Bool.{and_parts, false_from_ne_true, not-false, not-true, or_right}
 use Rattle.acpi_regs.specs.declared.actor.Actor.{Actor}
 use Rattle.acpi_regs.specs.declared.actor.Actor.TheVariants as actor
 use Rattle.acpi_regs.specs.declared.actor.Side.{Side}
@@ -21,11 +20,10 @@ use Rattle.handler_script.specs.declared.fault.ScriptFault.{ScriptFault}
 use Rattle.handler_script.specs.declared.fault.ScriptFault.TheVariants as fault
 use Rattle.handler_script.specs.declared.op.Op.{Op}
 use Rattle.handler_script.specs.declared.op.Op.TheVariants as op
-use Rattle.handler_script.specs.Accepts.{Accepted, faults_from, first_of, is_allowed, is_balanced, is_known as is_named, is_sound_skip, op_fault, open_after, script_fault}
+use Rattle.handler_script.specs.Accepts.{Accepted, faults_from, first_of, is_allowed, is_balanced, is_known as is_named, is_sound_skip, open_after, script_fault}
 use Rattle.handler_script.specs.Costs.{Costs, IsUniform, ops_cost}
-use Rattle.handler_script.specs.Plan.{End, plan}
+use Rattle.handler_script.specs.Plan.{plan}
 use Rattle.handler_script.proofs.Costs.{costs, more}
-use Rattle.machine_desc.specs.declared.machine.ControllerDesc.{ControllerDesc}
 use Rattle.machine_desc.specs.declared.machine.ListedEvent.{ListedEvent}
 use Rattle.machine_desc.specs.declared.machine.Query.{Query}
 use Rattle.machine_desc.specs.declared.tally.Tally.{Tally}
@@ -37,9 +35,9 @@ use Rattle.machine_desc.specs.Weight.{calls_of, counted, in_devices, in_firmware
 use Rattle.machine_desc.proofs.EachItem.{Each, any_mapped, each_all}
 use Rattle.machine_history.specs.declared.parts.Job.{Job}
 use Rattle.machine_history.specs.declared.parts.Job.TheVariants as job
-use Rattle.machine_history.specs.Machine.{code_script, event_script, first_slot_of, is_own, kind_of, lists, names, pulses_of, query_in, script_in, times}
-use Rattle.machine_history.specs.Scripts.{first_plan, job_plan, script_of}
-use Rattle.machine_history.proofs.Actors.{upto, upto-zero}
+use Rattle.machine_history.specs.Machine.{code_script, event_script, is_own, lists, names, pulses_of, query_in, script_in, times}
+use Rattle.machine_history.specs.Scripts.{script_of}
+use Rattle.machine_history.proofs.Actors.{upto}
 use Rattle.machine_history.proofs.Known.{same_event-self, same_event-swap, same_event-true}
 use Rattle.machine_history.proofs.Paying.{FirstsCost, JobsCost}
 use Rattle.machine_history.proofs.Queries.{IsOwn}

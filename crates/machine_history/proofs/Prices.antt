@@ -1,5 +1,5 @@
 -- Prices of acts, and what an entry is charged for: the act that it begins.
-use Rattle.std.proofs.Common.{ℕ, ◌+◌, ◌*◌}
+use Rattle.std.proofs.Common.{ℕ, ◌*◌}
 use Rattle.acpi_regs.specs.declared.entry.Deed.{Deed}
 use Rattle.acpi_regs.specs.declared.entry.Deed.TheVariants as deed
 use Rattle.acpi_regs.specs.declared.event.Event.{Event}

@@ -1,5 +1,5 @@
 -- Query jobs are no more than two a push and one for what else sets the status of the controller's event.
-use Rattle.std.proofs.Common.{ℕ, zero, suc, ◌+◌, ◌*◌, ◌≤◌, ◌≡◌, ◌==◌, ◌⊎◌, inl, inr, Bool, true, false, cond, not, ◌&&◌, List, [], ◌∷◌, ◌++◌, length, drop, slice_get, Option, Some, None, if◌then◌else◌, refl, sym, ap, ◌∙◌, subst, arith}
+use Rattle.std.proofs.Common.{ℕ, zero, suc, ◌+◌, ◌*◌, ◌≤◌, ◌≡◌, ◌==◌, inl, inr, Bool, true, false, not, ◌&&◌, List, [], ◌∷◌, ◌++◌, length, drop, slice_get, Option, Some, None, if◌then◌else◌, refl, sym, ap, ◌∙◌, subst, arith}
 use Rattle.std.proofs.lemmas.Bool.{cases_Bool}
 use Rattle.acpi_regs.specs.declared.actor.Actor.{Actor}
 use Rattle.acpi_regs.specs.declared.actor.Side.TheVariants as side
@@ -13,10 +13,8 @@ use Rattle.acpi_regs.specs.declared.entry.Request.TheVariants as request
 use Rattle.acpi_regs.specs.declared.event.Event.{Event}
 use Rattle.acpi_regs.specs.Actor.{stands_on}
 use Rattle.acpi_regs.specs.Event.{gbl, same_event}
-use Rattle.ec_driver.specs.declared.wire.Move.{Move}
 use Rattle.ec_driver.specs.declared.wire.Move.TheVariants as move
 use Rattle.ec_driver.specs.Wire.{wire}
-use Rattle.event_chip.specs.declared.state.EventKind.{EventKind}
 use Rattle.event_chip.specs.declared.state.Slot.{Slot}
 use Rattle.event_chip.specs.declared.state.Touch.{Touch}
 use Rattle.event_chip.specs.declared.state.Touch.TheVariants as touch
@@ -30,13 +28,13 @@ use Rattle.machine_history.specs.declared.parts.Touched.{Touched}
 use Rattle.machine_history.specs.Events.{does, does_to, slot, slot_after, status, touch_of, touched}
 use Rattle.machine_history.specs.Jobs.{claimed_job, event_ended, is_empty, jobs, made, made_by, taken_job}
 use Rattle.machine_history.specs.Legal.{Allowed, LegalPast, is_ctl_move, same_effect}
-use Rattle.machine_history.specs.Machine.{first_slot_of, is_own, kind_of, lists}
+use Rattle.machine_history.specs.Machine.{is_own, kind_of, lists}
 use Rattle.machine_history.specs.Values.{blank, next_in}
 use Rattle.machine_history.specs.Wire.{Open, asks_code, codes, codes_after, is_query, open_of}
 use Rattle.machine_history.proofs.Claims.{claimable, is_push, latch_in, starts_fresh}
 use Rattle.machine_history.proofs.Known.{hold, same_event-self, same_event-swap, same_event-true}
 use Rattle.machine_history.proofs.Prices.{charge, lifts}
-use Rattle.machine_history.proofs.Totals.{Count, bounded, one, one_small, total, when}
+use Rattle.machine_history.proofs.Totals.{Count, bounded, one, one_small, total}
 use Rattle.machine_history.proofs.Wires.{ctl_is, is_move}
 
 -- ---- the kind of an event stays

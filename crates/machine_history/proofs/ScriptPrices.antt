@@ -1,12 +1,10 @@
 -- What a script's acts cost is no more than what the weight counts for its operations.
-use Rattle.std.proofs.Common.{ℕ, zero, suc, ◌+◌, ◌*◌, ◌<◌, ◌≤◌, ◌≡◌, ◌==◌, Bool, true, false, cond, ◌&&◌, nat_lt, List, [], ◌∷◌, length, sum_by, count_by, Option, Some, None, slice_get, unwrap_or, if◌then◌else◌, refl, sym, ap, ◌∙◌, subst, arith}
+use Rattle.std.proofs.Common.{ℕ, ◌+◌, ◌*◌, ◌≤◌, ◌≡◌, Bool, true, false, cond, ◌&&◌, nat_lt, List, [], ◌∷◌, sum_by, Option, Some, None, slice_get, if◌then◌else◌, refl, ap, ◌∙◌, arith}
 use Rattle.std.proofs.lemmas.List.Sums.{sum_by-cons}
-use Rattle.std.proofs.Math.Nat.{mul-one, add-mul}
+use Rattle.std.proofs.Math.Nat.{mul-one}
 use Rattle.acpi_regs.specs.declared.entry.Cell.{Cell}
-use Rattle.acpi_regs.specs.declared.entry.Request.{Request}
 use Rattle.acpi_regs.specs.declared.entry.Request.TheVariants as request
 use Rattle.acpi_regs.specs.declared.event.Event.{Event}
-use Rattle.acpi_regs.specs.Event.{same_event}
 use Rattle.field_units.specs.declared.rules.RegionKind.{RegionKind}
 use Rattle.field_units.specs.declared.rules.RegionKind.TheVariants as kind
 use Rattle.field_units.specs.Bits.{byte_count}
@@ -15,17 +13,14 @@ use Rattle.handler_script.specs.declared.act.Act.{Act}
 use Rattle.handler_script.specs.declared.act.Act.TheVariants as act
 use Rattle.handler_script.specs.declared.op.Op.{Op}
 use Rattle.handler_script.specs.declared.op.Op.TheVariants as op
-use Rattle.handler_script.specs.Accepts.{Accepted}
-use Rattle.handler_script.specs.Costs.{Costs, IsUniform, field_cost, op_cost, ops_cost, reads_of, writes_of}
+use Rattle.handler_script.specs.Costs.{IsUniform, field_cost, op_cost, ops_cost, reads_of, writes_of}
 use Rattle.handler_script.specs.Left.{held_after}
 use Rattle.handler_script.specs.Parts.{bursts, read_in, takes_lock, write_in}
-use Rattle.machine_desc.specs.declared.tally.Tally.{Tally}
 use Rattle.machine_desc.specs.declared.tally.Tally.TheVariants as tally
-use Rattle.machine_desc.specs.Machine.{MachineData}
 use Rattle.machine_desc.specs.Weight.{access_moves, access_size, counted, in_script, one_if, op_moves, op_size, script_moves, script_size, size_from}
 use Rattle.machine_desc.specs.Weight as weight
 use Rattle.machine_history.proofs.Prices.{entries_price, lifts, moves_price, pushes_price, queries_price}
-use Rattle.machine_history.proofs.Totals.{one, sum_of}
+use Rattle.machine_history.proofs.Totals.{sum_of}
 
 pub sums-same : {X : Type 0} (f : X → ℕ) (xs : List X) → sum_by f xs ≡ sum_of f xs
 sums-same f [] = refl

@@ -1,5 +1,5 @@
 -- How far an actor is in an episode of the lock, by its own entries; its stage agrees with the words of the lock.
-use Rattle.std.proofs.Common.{ℕ, ◌+◌, ◌*◌, ◌≤◌, ◌≡◌, Bool, true, false, cond, not, ◌&&◌, List, [], ◌∷◌, Option, Some, None, is_none, if◌then◌else◌, refl, sym, ap, ◌∙◌, subst, arith}
+use Rattle.std.proofs.Common.{ℕ, ◌+◌, ◌*◌, ◌≤◌, ◌≡◌, Bool, true, false, cond, not, ◌&&◌, List, [], ◌∷◌, Option, Some, None, if◌then◌else◌, refl, sym, ap, ◌∙◌, subst, arith}
 use Rattle.std.proofs.lemmas.Bool.{and_parts, not-true}
 use Rattle.acpi_regs.specs.declared.actor.Actor.{Actor}
 use Rattle.acpi_regs.specs.declared.actor.Side.{Side}
@@ -7,7 +7,7 @@ use Rattle.acpi_regs.specs.declared.actor.Side.TheVariants as side
 use Rattle.acpi_regs.specs.declared.entry.Deed.{Deed}
 use Rattle.acpi_regs.specs.declared.entry.Deed.TheVariants as deed
 use Rattle.acpi_regs.specs.declared.entry.Entry.{Entry}
-use Rattle.acpi_regs.specs.Actor.{same_actor, side_of, is_side}
+use Rattle.acpi_regs.specs.Actor.{same_actor, side_of}
 use Rattle.acpi_regs.specs.Lock.{busy_after, disowned_after, has_disowned, has_owned, is_busy, is_someone, owned_after, owner, seeker}
 use Rattle.machine_desc.specs.Machine.{MachineData}
 use Rattle.machine_history.specs.Legal.{Allowed, LegalPast, has_quit, is_leave, is_seeker, is_trying, runs_scripts, seeks, unsought}

@@ -1,5 +1,5 @@
 -- The entries and moves of transactions are no more than what their begins allow.
-use Rattle.std.proofs.Common.{ℕ, zero, suc, ◌+◌, ◌≤◌, ◌≡◌, Bool, true, false, cond, not, ◌&&◌, List, [], ◌∷◌, map, drop, slice_get, Option, Some, None, is_some, is_none, if◌then◌else◌, refl, sym, ap, ◌∙◌, subst, arith}
+use Rattle.std.proofs.Common.{ℕ, zero, suc, ◌+◌, ◌≤◌, ◌≡◌, Bool, true, false, ◌&&◌, List, [], ◌∷◌, map, drop, slice_get, Option, Some, None, is_some, is_none, if◌then◌else◌, refl, ap, subst, arith}
 use Rattle.std.proofs.lemmas.Bool.{and_parts}
 use Rattle.acpi_regs.specs.declared.actor.Actor.{Actor}
 use Rattle.acpi_regs.specs.declared.entry.Deed.{Deed}
@@ -17,7 +17,7 @@ use Rattle.machine_desc.specs.Machine.{MachineData}
 use Rattle.machine_history.specs.Legal.{Allowed, LegalPast, is_ctl_move, is_host_move, same_effect}
 use Rattle.machine_history.specs.Machine.{is_fickle}
 use Rattle.machine_history.specs.Values.{blank, next_in, taking_in}
-use Rattle.machine_history.specs.Wire.{Open, asks_code, begun, burst, burst_after, burst_in, is_query, moved, open_after, open_of, put_out}
+use Rattle.machine_history.specs.Wire.{Open, asks_code, burst, burst_after, burst_in, is_query, moved, open_after, open_of, put_out}
 use Rattle.machine_history.proofs.Known.{hold}
 use Rattle.machine_history.proofs.Totals.{Count, bounded, by_deed, one, one_small, sum_of, total}
 
