@@ -5,9 +5,11 @@ pub mod Codes
 pub mod JobCounts
 pub mod Keeping
 pub mod Known
+pub mod LastEntries
 pub mod Locking
 pub mod Machines
 pub mod Paying
+pub mod Places
 pub mod Prices
 pub mod Queries
 pub mod ScriptPrices

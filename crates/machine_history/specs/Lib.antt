@@ -2,6 +2,7 @@ pub mod Cells
 pub mod Complete
 pub mod Events
 pub mod Jobs
+pub mod Last
 pub mod Legal
 pub mod Machine
 pub mod Scripts
