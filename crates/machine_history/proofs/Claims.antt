@@ -303,7 +303,7 @@ claims_within m n past legal =
 
 -- ---- latches
 
-latches-total : (n : Event) (past : List Entry) → latches past n ≡ total (by_deed (latch_in n)) past
+pub latches-total : (n : Event) (past : List Entry) → latches past n ≡ total (by_deed (latch_in n)) past
 latches-total n [] = refl
 latches-total n (e ∷ past) = more e.deed (latches-total n past)
   where

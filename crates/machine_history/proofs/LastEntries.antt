@@ -56,12 +56,12 @@ past-seam : (past : List Entry) (e : Entry) → past_of (reverse past ++ e ∷ [
 past-seam past e = ap reverse (take-append_seam (reverse past) (e ∷ [])) ∙ reverse-reverse past
 
 -- one entry more
-at_push : {X : Type 0} (sets : List Entry → Entry → Option X) (past : List Entry) (e : Entry) (i : ℕ) (v : X) → SetsAt sets (reverse past) i v → SetsAt sets (reverse past ++ e ∷ []) i v
+pub at_push : {X : Type 0} (sets : List Entry → Entry → Option X) (past : List Entry) (e : Entry) (i : ℕ) (v : X) → SetsAt sets (reverse past) i v → SetsAt sets (reverse past ++ e ∷ []) i v
 at_push sets past e i v at =
     let within : i < length (reverse past) = slice_get_within (reverse past) i at.0 at.1 in
     (at.0, slice_get-append_left (reverse past) (e ∷ []) i at.0 at.1, ap (λ p. sets p at.0) (past-push (reverse past) e i (omega arith)) ∙ at.2)
 
-at_seam : {X : Type 0} (sets : List Entry → Entry → Option X) (past : List Entry) (e : Entry) (v : X) → sets past e ≡ Some v → SetsAt sets (reverse past ++ e ∷ []) (length (reverse past)) v
+pub at_seam : {X : Type 0} (sets : List Entry → Entry → Option X) (past : List Entry) (e : Entry) (v : X) → sets past e ≡ Some v → SetsAt sets (reverse past ++ e ∷ []) (length (reverse past)) v
 at_seam sets past e v is = (e, slice_get-seam (reverse past) e, ap (λ p. sets p e) (past-seam past e) ∙ is)
 
 from_push : {X : Type 0} (sets : List Entry → Entry → Option X) (past : List Entry) (e : Entry) (i : ℕ) (v : X) → SetsAt sets (reverse past ++ e ∷ []) i v
@@ -341,7 +341,7 @@ held_touch touch.Claim s = refl
 held_touch touch.Finish s = refl
 held_touch _ s = refl
 
-held_step : (m : MachineData) (n : Event) (past : List Entry) (e : Entry) → held m (e ∷ past) n ≡ unwrap_or (held_set m n past e) (held m past n)
+pub held_step : (m : MachineData) (n : Event) (past : List Entry) (e : Entry) → held m (e ∷ past) n ≡ unwrap_or (held_set m n past e) (held m past n)
 held_step m n past e =
     slot_state (λ s. s.state.held) (λ s o. held_by (is_listed s.kind) o) (λ s. refl) held_touch n (touched m past e) (slot m past n)
     ∙ ap (λ k. unwrap_or (held_by (is_listed k) (done_to n (touched m past e))) (held m past n)) (slot_kind m past n)

@@ -2,12 +2,15 @@ pub mod Actors
 pub mod Adding
 pub mod Claims
 pub mod Codes
+pub mod Consuming
 pub mod JobCounts
+pub mod JobOrder
 pub mod Keeping
 pub mod Known
 pub mod LastEntries
 pub mod Locking
 pub mod Machines
+pub mod Parking
 pub mod Paying
 pub mod Places
 pub mod Prices

@@ -6,5 +6,6 @@ pub mod Last
 pub mod Legal
 pub mod Machine
 pub mod Scripts
+pub mod Sentences
 pub mod Values
 pub mod Wire
