@@ -3,6 +3,7 @@ pub mod Adding
 pub mod Claims
 pub mod Codes
 pub mod Consuming
+pub mod Fronts
 pub mod JobCounts
 pub mod JobOrder
 pub mod Keeping
