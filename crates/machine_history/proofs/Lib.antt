@@ -1,6 +1,7 @@
 pub mod Actors
 pub mod Adding
 pub mod Claims
+pub mod CodeOrder
 pub mod Codes
 pub mod Consuming
 pub mod Fronts
@@ -14,6 +15,7 @@ pub mod Machines
 pub mod Parking
 pub mod Paying
 pub mod Places
+pub mod PlanFacts
 pub mod Prices
 pub mod Queries
 pub mod ScriptPrices
