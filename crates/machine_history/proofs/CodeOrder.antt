@@ -1,17 +1,13 @@
 -- The codes that were pushed are those that were given, and behind them those that wait.
-use Rattle.std.proofs.Common.{ℕ, zero, suc, ◌+◌, ◌<◌, ◌≤◌, ◌≡◌, ◌==◌, ◌⊎◌, inl, inr, Bool, true, false, cond, not, List, [], ◌∷◌, ◌++◌, drop, reverse, filter_map, Option, Some, None, slice_get, unwrap_or, if◌then◌else◌, refl, sym, ap, ◌∙◌, subst, append_assoc, arith}
+use Rattle.std.proofs.Common.{ℕ, ◌+◌, ◌≤◌, ◌≡◌, ◌==◌, Bool, true, false, List, [], ◌∷◌, ◌++◌, drop, reverse, filter_map, Option, Some, None, slice_get, unwrap_or, if◌then◌else◌, refl, sym, ap, ◌∙◌, subst, append_assoc, arith}
 use Rattle.std.proofs.lemmas.Bool.{eqb-true, not-true}
 use Rattle.std.proofs.lemmas.List.{append-nil, reverse-reverse}
 use Rattle.std.proofs.lemmas.List.Elements.{filter_map-append}
 use Rattle.acpi_regs.specs.declared.actor.Actor.{Actor}
 use Rattle.acpi_regs.specs.declared.entry.Deed.{Deed}
 use Rattle.acpi_regs.specs.declared.entry.Deed.TheVariants as deed
-use Rattle.acpi_regs.specs.declared.entry.Effect.{Effect}
 use Rattle.acpi_regs.specs.declared.entry.Effect.TheVariants as effect
 use Rattle.acpi_regs.specs.declared.entry.Entry.{Entry}
-use Rattle.acpi_regs.specs.declared.entry.HostMove.{HostMove}
-use Rattle.acpi_regs.specs.declared.entry.Request.{Request}
-use Rattle.acpi_regs.specs.declared.entry.Request.TheVariants as request
 use Rattle.ec_chip.specs.Parts.{first_code}
 use Rattle.ec_driver.specs.declared.wire.Move.TheVariants as move
 use Rattle.ec_driver.specs.Wire.{wire}
@@ -28,7 +24,7 @@ use Rattle.machine_history.proofs.Codes.{out_is}
 use Rattle.machine_history.proofs.Known.{hold}
 use Rattle.machine_history.proofs.PlanFacts.{is_coded, left_coded, next_each}
 use Rattle.machine_history.proofs.Places.{reverse-cons}
-use Rattle.machine_history.proofs.Queries.{is_qr_request, qr_move, unasked}
+use Rattle.machine_history.proofs.Queries.{is_qr_request, qr_move}
 use Rattle.machine_history.proofs.Wires.{ctl_is}
 
 abbrev entry : Actor → Deed → Entry

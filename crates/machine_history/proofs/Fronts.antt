@@ -1,5 +1,5 @@
 -- The moves since the open begin are a front of the moves of its request.
-use Rattle.std.proofs.Common.{ℕ, zero, suc, ◌+◌, ◌<◌, ◌≤◌, ◌≡◌, ◌==◌, Bool, true, false, cond, List, [], ◌∷◌, ◌++◌, length, reverse, take, drop, Option, Some, None, is_none, slice_get, unwrap_or, if◌then◌else◌, refl, sym, ap, ◌∙◌, subst, arith}
+use Rattle.std.proofs.Common.{ℕ, zero, suc, ◌+◌, ◌<◌, ◌≤◌, ◌≡◌, true, false, List, [], ◌∷◌, ◌++◌, length, reverse, take, drop, Option, Some, None, slice_get, unwrap_or, refl, sym, ap, ◌∙◌, subst, arith}
 use Rattle.std.proofs.lemmas.Bool.{eqb-true}
 use Rattle.std.proofs.lemmas.List.{append-nil, length-take-le, take-append-drop}
 use Rattle.std.proofs.lemmas.Option.{slice_get_within}
@@ -20,10 +20,9 @@ use Rattle.machine_desc.specs.Machine.{MachineData}
 use Rattle.machine_history.specs.Legal.{Allowed, Legal, LegalPast, is_ctl_move, is_host_move, same_effect, same_host}
 use Rattle.machine_history.specs.Sentences.{FrontOfWire, moves}
 use Rattle.machine_history.specs.Values.{answer, blank, next_in}
-use Rattle.machine_history.specs.Wire.{Open, begun, moved, open_after, open_of, put_out}
-use Rattle.machine_history.proofs.Known.{hold, some-injective}
+use Rattle.machine_history.specs.Wire.{Open, moved, open_after, open_of, put_out}
+use Rattle.machine_history.proofs.Known.{hold}
 use Rattle.machine_history.proofs.Queries.{is_out}
-use Rattle.machine_history.proofs.Wires.{ctl_is, host_is}
 
 -- ---- lists
 
@@ -178,8 +177,7 @@ out_front m past v (Some o) ms is front =
     let at = ctl_next (effect.Out v) (next_in m past (Some o)) is in
     let filled = out_wire o.asks (blank m past o) o.made v at in
     let before : ms ≡ take o.made (wire o.asks v) = front.0 (blank m past o) (agrees o.out (answer m past o.asks)) ∙ ap (take o.made) filled in
-    let here : slice_get (wire o.asks v) o.made ≡ Some (move.Ctl (effect.Out v)) = ap (λ w. slice_get w o.made) (sym filled) ∙ at in
-    (
+    let here : slice_get (wire o.asks v) o.made ≡ Some (move.Ctl (effect.Out v)) = ap (λ w. slice_get w o.made) (sym filled) ∙ at in (
       λ c same. ap (λ zs. zs ++ move.Ctl (effect.Out v) ∷ []) before ∙ (sym (take-more (wire o.asks v) o.made (move.Ctl (effect.Out v)) here) ∙ ap (λ b. take (o.made + 1) (wire o.asks b)) same),
       λ none. cc,
       (let less = slice_get_within (wire o.asks v) o.made (move.Ctl (effect.Out v)) here in let long = wire-length o.asks v in omega arith),
@@ -204,10 +202,12 @@ front_of past o front =
     let b : ℕ = unwrap_or o.out 0 in
     let is = front.0 (unwrap_or o.out 0) (agrees o.out 0) in
     let within = front.2 in
-    let long = wire-length o.asks (unwrap_or o.out 0) in
-    (unwrap_or o.out 0, drop o.made (wire o.asks (unwrap_or o.out 0)),
-    sym (take-append-drop o.made (wire o.asks (unwrap_or o.out 0))) ∙ ap (λ ms. ms ++ drop o.made (wire o.asks (unwrap_or o.out 0))) (sym is),
-    ap length is ∙ length-take-le o.made (wire o.asks (unwrap_or o.out 0)) (omega arith))
+    let long = wire-length o.asks (unwrap_or o.out 0) in (
+      unwrap_or o.out 0,
+      drop o.made (wire o.asks (unwrap_or o.out 0)),
+      sym (take-append-drop o.made (wire o.asks (unwrap_or o.out 0))) ∙ ap (λ ms. ms ++ drop o.made (wire o.asks (unwrap_or o.out 0))) (sym is),
+      ap length is ∙ length-take-le o.made (wire o.asks (unwrap_or o.out 0)) (omega arith),
+    )
 
 pub front_of_wire : (m : MachineData) (history : List Entry) (o : Open) → Legal m history → open_of (reverse history) ≡ Some o → FrontOfWire (reverse history) o
 front_of_wire m history o legal is = front_of (reverse history) o (subst (λ oo. Fronts oo (moves (reverse history))) is (fronts m (reverse history) legal))

@@ -1,4 +1,5 @@
 pub mod Actors
+pub mod ActsOnce
 pub mod Adding
 pub mod Claims
 pub mod CodeOrder

@@ -1,5 +1,5 @@
 -- What is true of each act of every script is true of each act that is left.
-use Rattle.std.proofs.Common.{ℕ, zero, suc, ◌<◌, ◌≡◌, ◌==◌, Bool, true, false, cond, not, List, [], ◌∷◌, Option, Some, None, slice_get, unwrap_or, if◌then◌else◌, nat_eq, refl, sym, ap, ◌∙◌, subst, arith}
+use Rattle.std.proofs.Common.{ℕ, zero, suc, ◌<◌, ◌≡◌, ◌==◌, Bool, true, false, not, List, [], ◌∷◌, Option, Some, None, slice_get, unwrap_or, if◌then◌else◌, nat_eq, refl, sym, ap, ◌∙◌, subst, arith}
 use Rattle.std.proofs.lemmas.Bool.{ne_eqb}
 use Rattle.acpi_regs.specs.declared.actor.Actor.{Actor}
 use Rattle.acpi_regs.specs.declared.actor.Actor.TheVariants as actor
@@ -8,7 +8,6 @@ use Rattle.acpi_regs.specs.declared.actor.Side.TheVariants as side
 use Rattle.acpi_regs.specs.declared.entry.Deed.{Deed}
 use Rattle.acpi_regs.specs.declared.entry.Deed.TheVariants as deed
 use Rattle.acpi_regs.specs.declared.entry.Entry.{Entry}
-use Rattle.acpi_regs.specs.declared.entry.Request.{Request}
 use Rattle.acpi_regs.specs.declared.entry.Request.TheVariants as request
 use Rattle.acpi_regs.specs.declared.event.Event.{Event}
 use Rattle.acpi_regs.specs.Actor.{same_actor}
@@ -22,7 +21,7 @@ use Rattle.handler_script.specs.declared.op.Op.{Op}
 use Rattle.handler_script.specs.declared.op.Op.TheVariants as op
 use Rattle.handler_script.specs.Each.{Each, IsTrueOn, act_alone}
 use Rattle.handler_script.specs.Parts.{access_needs, read_in, write_in}
-use Rattle.handler_script.specs.Plan.{Plan, Do, End, next_act, plan, plan_after, query_plan}
+use Rattle.handler_script.specs.Plan.{Plan, Do, End, next_act, plan, plan_after}
 use Rattle.handler_script.proofs.Each.{each}
 use Rattle.machine_desc.specs.declared.machine.ListedEvent.{ListedEvent}
 use Rattle.machine_desc.specs.declared.machine.Query.{Query}
@@ -171,7 +170,7 @@ left_coded m ok past a = plan_kept (Each is_coded) m tt (λ p byte all. after_ea
 
 -- ---- what a query answers goes nowhere
 
-abbrev is_query_act : Act → Bool
+abbrev pub is_query_act : Act → Bool
 is_query_act (act.Ask request.Qr) = true
 is_query_act _ = false
 

@@ -5,6 +5,7 @@ pub mod Jobs
 pub mod Last
 pub mod Legal
 pub mod Machine
+pub mod Once
 pub mod Scripts
 pub mod Sentences
 pub mod Values
