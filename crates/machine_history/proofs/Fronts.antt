@@ -119,7 +119,7 @@ host_next h None is = cc
 host_next h (Some (move.Host g)) is = ap (λ y. Some (move.Host y)) (same_host-true h g is)
 host_next h (Some (move.Ctl e)) is = cc
 
-ctl_next : (e : Effect) (x : Option Move) → is_ctl_move e x ≡ true → x ≡ Some (move.Ctl e)
+pub ctl_next : (e : Effect) (x : Option Move) → is_ctl_move e x ≡ true → x ≡ Some (move.Ctl e)
 ctl_next e None is = cc
 ctl_next e (Some (move.Host g)) is = cc
 ctl_next e (Some (move.Ctl f)) is = ap (λ y. Some (move.Ctl y)) (same_effect-true e f is)

@@ -13,6 +13,7 @@ pub mod Known
 pub mod LastEntries
 pub mod Locking
 pub mod Machines
+pub mod Owning
 pub mod Parking
 pub mod Paying
 pub mod Places

@@ -67,7 +67,7 @@ pub each-legal : (m : MachineData) (history : List Entry) → EachAllowed m hist
 each-legal m history each = legal_from_each m (reverse history) (subst (EachAllowed m) (sym (reverse-reverse history)) each)
 
 -- what is legal was legal before its newest entries
-legal-tail : (m : MachineData) (newer past : List Entry) → LegalPast m (newer ++ past) → LegalPast m past
+pub legal-tail : (m : MachineData) (newer past : List Entry) → LegalPast m (newer ++ past) → LegalPast m past
 legal-tail m [] past legal = legal
 legal-tail m (e ∷ newer) past legal = legal-tail m newer past legal.1
 

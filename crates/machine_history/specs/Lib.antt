@@ -1,6 +1,7 @@
 pub mod Cells
 pub mod Complete
 pub mod Events
+pub mod Exclusion
 pub mod Jobs
 pub mod Last
 pub mod Legal

@@ -14,6 +14,7 @@ ghost use Rattle.machine_desc.specs.Weight.{weight_of};
 ghost use Rattle.machine_history.specs.Cells.{first_byte};
 ghost use Rattle.machine_history.specs.Complete.{Complete};
 ghost use Rattle.machine_history.specs.Events.{held, line, status};
+ghost use Rattle.machine_history.specs.Exclusion.{AccessesByOwner, DisownsBetween, ReadsLast};
 ghost use Rattle.machine_history.specs.Jobs.{running};
 ghost use Rattle.machine_history.specs.Last.{IsLast, burst_set, busy_set, disowned_set, due_set, gbl_set, held_set, line_set, owned_set, owner_set, running_set, seeker_set, status_set, told, value_set, wake_set};
 ghost use Rattle.machine_history.specs.Legal.{EachAllowed, Legal};
@@ -126,6 +127,20 @@ pub fn law_next_act()
 pub fn law_scripts_once()
     ensures firmware { (m : MachineData) (history : List Entry) → Complete m history → ScriptsOnce m history }
     ensures jobs { (m : MachineData) (history : List Entry) → Legal m history → JobsOnce m history }
+{}
+
+/// In a legal history each read gives the last byte that was written to its cell, or the description's, also where the
+/// controller makes it.
+pub fn law_reads_last()
+    ensures { (m : MachineData) (history : List Entry) → Legal m history → ReadsLast m history }
+{}
+
+/// In a legal history of a machine each access is made for the next act of the actor to whom it is credited, also where the
+/// controller makes it, and where that act needs the Global Lock its actor owns it. Between an own and the next own the actor
+/// of the first disowns.
+pub fn law_exclusion()
+    ensures owner { (m : MachineData) (history : List Entry) → IsMachine m → Legal m history → AccessesByOwner m history }
+    ensures between { (m : MachineData) → DisownsBetween m }
 {}
 
 /// Conditions of the table of entries are equal, by `==`, exactly where they are the same.
