@@ -5,6 +5,8 @@ pub mod Events
 pub mod Jobs
 pub mod Legal
 pub mod Machine
+pub mod Played
 pub mod Scripts
+pub mod Steps
 pub mod Values
 pub mod Wire
