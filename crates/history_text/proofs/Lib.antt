@@ -1,1 +1,2 @@
 mod Guesses
+pub mod Writing

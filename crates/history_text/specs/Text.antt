@@ -1,5 +1,5 @@
 -- The text of a log's lines, each without its newline.
-use Rattle.std.specs.Prelude.{ℕ, ◌+◌, ◌/◌, ◌%◌, nat_lt, if◌then◌else◌, Bool, true, false, List, [], ◌∷◌, ◌++◌, codes, decimal, Option, Some, None}
+use Rattle.std.specs.Prelude.{ℕ, length, ◌+◌, ◌/◌, ◌%◌, nat_lt, if◌then◌else◌, Bool, true, false, List, [], ◌∷◌, ◌++◌, codes, decimal, Option, Some, None}
 use Rattle.acpi_regs.specs.declared.actor.Actor.{Actor}
 use Rattle.acpi_regs.specs.declared.actor.Actor.TheVariants as actor
 use Rattle.acpi_regs.specs.declared.entry.Cell.{Cell}
@@ -130,3 +130,7 @@ rest_line n = rest_text n ++ 10 ∷ []
 -- the machine's line, around its canonical text
 abbrev pub machine_line : List ℕ → List ℕ
 machine_line canonical = codes "machine " ++ (canonical ++ 10 ∷ [])
+
+-- the whole log of a history without parked events
+abbrev pub log_text : List ℕ → List Entry → List ℕ
+log_text canonical entries = machine_line canonical ++ (entry_lines entries ++ rest_line (length entries))

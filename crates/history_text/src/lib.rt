@@ -7,8 +7,15 @@
 
 pub mod laws;
 mod line;
+mod log;
+mod pieces;
 
+pub use log::write_log;
+pub use pieces::Pieces;
 pub use line::{Line, LineText, line_of_entry, line_of_rest, line_of_stuck, write_line};
 
 
 
+
+#[cfg(test)]
+mod tests;
