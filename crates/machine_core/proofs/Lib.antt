@@ -9,3 +9,8 @@ pub mod Room
 pub mod Sentences
 pub mod Sizes
 pub mod Steps
+mod Space
+pub mod WirePlaces
+pub mod Wires
+pub mod WireSteps
+pub mod WireRows

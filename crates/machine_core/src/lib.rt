@@ -13,6 +13,7 @@ mod cells;
 mod cursors;
 pub mod laws;
 mod rule;
+mod wire;
 
 pub use board::Board;
 pub use rule::LogRule;

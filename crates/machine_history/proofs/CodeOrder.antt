@@ -1,6 +1,6 @@
 -- The codes that were pushed are those that were given, and behind them those that wait.
-use Rattle.std.proofs.Common.{ℕ, ◌+◌, ◌≤◌, ◌≡◌, ◌==◌, ◌&&◌, not, Bool, true, false, List, [], ◌∷◌, ◌++◌, drop, length, reverse, filter_map, Option, Some, None, is_some, is_none, slice_get, unwrap_or, if◌then◌else◌, refl, sym, ap, ◌∙◌, subst, append_assoc, arith}
-use Rattle.std.proofs.lemmas.Bool.{eqb-true, not-true}
+use Rattle.std.proofs.Common.{ℕ, ◌+◌, ◌<◌, ◌≤◌, ◌≡◌, ◌==◌, ◌&&◌, not, Bool, true, false, List, [], ◌∷◌, ◌++◌, drop, length, reverse, filter_map, Option, Some, None, is_some, is_none, slice_get, unwrap_or, if◌then◌else◌, refl, sym, ap, ◌∙◌, subst, append_assoc, arith}
+use Rattle.std.proofs.lemmas.Bool.{eqb-true, ltb-true, ne_eqb}
 use Rattle.std.proofs.lemmas.List.{append-nil, reverse-reverse}
 use Rattle.std.proofs.lemmas.List.Elements.{filter_map-append}
 use Rattle.acpi_regs.specs.declared.actor.Actor.{Actor}
@@ -18,6 +18,7 @@ use Rattle.handler_script.specs.declared.act.Act.{Act}
 use Rattle.handler_script.specs.declared.act.Act.TheVariants as act
 use Rattle.machine_desc.specs.Kept.{IsMachine}
 use Rattle.machine_desc.specs.Machine.{MachineData}
+use Rattle.machine_history.specs.Acts.{fits}
 use Rattle.machine_history.specs.declared.parts.Job.{Job}
 use Rattle.machine_history.specs.declared.parts.Job.TheVariants as job
 use Rattle.machine_history.specs.Jobs.{and_job, claimed_job, is_empty, jobs, made_by, taken_job}
@@ -29,7 +30,8 @@ use Rattle.machine_history.specs.Values.{answer, blank, next_in, taking_in}
 use Rattle.machine_history.specs.Wire.{Open, asks_code, begun, code, codes, codes_after, given, gives, is_query, moved, open_after, open_of, put_out}
 use Rattle.machine_history.proofs.Codes.{Filled, filled, out_is}
 use Rattle.machine_history.proofs.Known.{hold}
-use Rattle.machine_history.proofs.PlanFacts.{is_coded, left_coded, next_each}
+use Rattle.machine_history.proofs.Fitting.{left_fits}
+use Rattle.machine_history.proofs.PlanFacts.{next_each}
 use Rattle.machine_history.proofs.Places.{reverse-cons}
 use Rattle.machine_history.proofs.Queries.{is_qr_request, qr_move}
 use Rattle.machine_history.proofs.Wires.{ctl_is}
@@ -102,8 +104,9 @@ pushes_some m ok past a q allowed = at (next_of m past a) refl (hold m past a (d
     at : (x : Option Act) → next_of m past a ≡ x → asked_by x (deed.Push q) ≡ true → (q == 0) ≡ false
     at None none is = cc
     at (Some x) next is =
-        let true_of = next_each is_coded (plan_left m past a) x next (left_coded m ok past a) in
-        not-true (q == 0) (ap (is_coded true_of.0) (sym (same x is)) ∙ true_of.1)
+        let fitting = next_each (fits m) (plan_left m past a) x next (left_fits m ok past a) in
+        let some : 0 < q = ltb-true 0 q (ap (fits m fitting.0) (sym (same x is)) ∙ fitting.1) in
+        ne_eqb q 0 (λ zero_code. omega arith)
 
 zero_if : (b : Bool) (queue : List ℕ) → NoZero queue → NoZero (if b then drop 1 queue else queue)
 zero_if true queue before = zero-drop queue before

@@ -5,6 +5,7 @@ pub mod Claims
 pub mod CodeOrder
 pub mod Codes
 pub mod Consuming
+pub mod Fitting
 pub mod Fronts
 pub mod JobCounts
 pub mod JobOrder

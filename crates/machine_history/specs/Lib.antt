@@ -1,3 +1,4 @@
+pub mod Acts
 pub mod Cells
 pub mod Complete
 pub mod Events
@@ -7,7 +8,9 @@ pub mod Last
 pub mod Legal
 pub mod Machine
 pub mod Once
+pub mod Played
 pub mod Scripts
 pub mod Sentences
+pub mod Steps
 pub mod Values
 pub mod Wire

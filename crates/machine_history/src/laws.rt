@@ -5,12 +5,14 @@ ghost use Rattle.acpi_regs.specs.declared.actor.Actor.{Actor};
 ghost use Rattle.acpi_regs.specs.declared.actor.Side.{Side};
 ghost use Rattle.acpi_regs.specs.declared.entry.Cell.{Cell};
 ghost use Rattle.acpi_regs.specs.declared.entry.Entry.{Entry};
-ghost use Rattle.acpi_regs.specs.declared.event.Event.{Event};
 ghost use Rattle.acpi_regs.specs.Event.{gbl};
 ghost use Rattle.acpi_regs.specs.Lock.{gbl_status, has_disowned, has_owned, is_busy, owner, seeker, wake};
+ghost use Rattle.acpi_regs.specs.declared.event.Event.{Event};
+ghost use Rattle.handler_script.specs.Each.{Each};
 ghost use Rattle.machine_desc.specs.Kept.{IsMachine};
 ghost use Rattle.machine_desc.specs.Machine.{MachineData};
 ghost use Rattle.machine_desc.specs.Weight.{weight_of};
+ghost use Rattle.machine_history.specs.Acts.{fits};
 ghost use Rattle.machine_history.specs.Cells.{first_byte};
 ghost use Rattle.machine_history.specs.Complete.{Complete};
 ghost use Rattle.machine_history.specs.Events.{held, line, status};
@@ -19,6 +21,7 @@ ghost use Rattle.machine_history.specs.Jobs.{running};
 ghost use Rattle.machine_history.specs.Last.{IsLast, burst_set, busy_set, disowned_set, due_set, gbl_set, held_set, line_set, opener_in, opener_set, owned_set, owner_set, running_set, seeker_set, status_set, told, value_set, wake_set};
 ghost use Rattle.machine_history.specs.Legal.{EachAllowed, Legal};
 ghost use Rattle.machine_history.specs.Once.{IsFirstLeft, JobsOnce, ScriptsOnce};
+ghost use Rattle.machine_history.specs.Scripts.{plan_left};
 ghost use Rattle.machine_history.specs.Sentences.{ClaimsConsume, CodesInOrder, FrontOfWire, JobsDone, JobsInOrder, LatchesFromPulses, ParksAfterSixteen, RunsAsGiven};
 ghost use Rattle.machine_history.specs.Values.{value};
 ghost use Rattle.machine_history.specs.Wire.{Open, burst, due, open_of};
@@ -28,6 +31,13 @@ use crate::LogRule;
 /// A complete history is legal.
 pub fn law_complete_legal()
     ensures { (m : MachineData) (history : List Entry) → Complete m history → Legal m history }
+{}
+
+/// Whatever an actor has left to do: it reads and writes bytes of memory alone, asks the controller for its addresses, and
+/// pushes no code 0.
+pub fn law_acts_fit()
+    ensures { (m : MachineData) (past : List Entry) (a : Actor)
+        → IsMachine m → Each (fits m) (plan_left m past a) }
 {}
 
 /// A history is legal exactly where each of its entries is allowed after those before it.
