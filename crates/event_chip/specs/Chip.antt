@@ -65,5 +65,5 @@ IsLevel chip e = is_level (slot_of chip e).kind ≡ true
 
 -- the first event in order that is pending, if one is
 abbrev pub IsFirst : List Slot → Option Event → Type 0
-IsFirst chip None = (n : Event) → event_rank n < 261 → pends chip n ≡ false
+IsFirst chip None = (n : Event) → pends chip n ≡ false
 IsFirst chip (Some n) = (pends chip n ≡ true) × ((k : Event) → event_rank k < event_rank n → pends chip k ≡ false)

@@ -62,8 +62,8 @@ impl EventChip {
         self.slots[rank_of(event)]
     }
 
-    /// Touches an event.
-    fn touch(&mut self, event: Event, touch: Touch)
+    /// Touches an event. Each call below is one touch, under the condition on which a machine makes it.
+    pub fn touch(&mut self, touch: Touch, event: Event)
         ensures { Touches touch event self.old self.new }
     {
         let rank = rank_of(event);
@@ -77,7 +77,7 @@ impl EventChip {
         requires { IsKnown self.old event }
         ensures { Touches touch.Raise event self.old self.new }
     {
-        self.touch(event, Touch::Raise)
+        self.touch(Touch::Raise, event)
     }
 
     /// The line of a level event (`slot(event).kind.is_level()`) was asserted: its status is set, and runs are counted anew.
@@ -85,7 +85,7 @@ impl EventChip {
         requires { IsLevel self.old event }
         ensures { Touches touch.Assert event self.old self.new }
     {
-        self.touch(event, Touch::Assert)
+        self.touch(Touch::Assert, event)
     }
 
     /// The line of a level event (`slot(event).kind.is_level()`) was dropped. Its status stays until the event's run ends.
@@ -93,7 +93,7 @@ impl EventChip {
         requires { IsLevel self.old event }
         ensures { Touches touch.Drop event self.old self.new }
     {
-        self.touch(event, Touch::Drop)
+        self.touch(Touch::Drop, event)
     }
 
     /// The OS takes the status of an event that is `pending` for dispatch. A listed event is held; the status is cleared
@@ -102,7 +102,7 @@ impl EventChip {
         requires { pends self.old event ≡ true }
         ensures { Touches touch.Claim event self.old self.new }
     {
-        self.touch(event, Touch::Claim)
+        self.touch(Touch::Claim, event)
     }
 
     /// A run of the handler of an event that is held ended: the event is held no longer, and a level status becomes its line. A run that
@@ -111,7 +111,7 @@ impl EventChip {
         requires { (slot_of self.old event).state.held ≡ true }
         ensures { Touches touch.Finish event self.old self.new }
     {
-        self.touch(event, Touch::Finish)
+        self.touch(Touch::Finish, event)
     }
 
     /// One reference more to a listed event (`slot(event).kind.is_listed()`), up to 255.
@@ -119,7 +119,7 @@ impl EventChip {
         requires { IsListed self.old event }
         ensures { Touches touch.Up event self.old self.new }
     {
-        self.touch(event, Touch::Up)
+        self.touch(Touch::Up, event)
     }
 
     /// One reference less to a listed event (`slot(event).kind.is_listed()`), down to 0.
@@ -127,7 +127,7 @@ impl EventChip {
         requires { IsListed self.old event }
         ensures { Touches touch.Down event self.old self.new }
     {
-        self.touch(event, Touch::Down)
+        self.touch(Touch::Down, event)
     }
 
     /// Whether the event has status and is enabled.
@@ -227,8 +227,8 @@ fn write(slots: &mut [Slot], event: Event, slot: Slot)
     slots[rank_of(event)] = slot;
 }
 
-/// The place of an event in the order in which events are served.
-fn rank_of(event: Event) -> usize
+/// The place of an event in the order in which events are served, from 0 to 260.
+pub fn rank_of(event: Event) -> usize
     ensures value { result ≡ event_rank event }
     ensures bound { result < 261 }
 {

@@ -12,7 +12,7 @@ pub mod laws;
 mod ranks;
 mod state;
 
-pub use chip::EventChip;
+pub use chip::{EventChip, rank_of};
 pub use state::{EventKind, EventState, Slot, Touch};
 
 #[cfg(test)]
