@@ -2,11 +2,14 @@
 #![tactic(auto)]
 
 mod actors;
+mod board;
 mod cells;
 mod course;
 mod events;
 mod jobs;
 mod lock;
+mod same;
 mod wire;
 
+pub use board::Board;
 pub use machine_history::LogRule;
