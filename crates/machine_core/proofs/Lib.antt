@@ -1,1 +1,6 @@
 pub mod Queries
+pub mod Space
+pub mod WirePlaces
+pub mod WireRows
+pub mod WireSteps
+pub mod Wires

@@ -8,8 +8,6 @@ use Rattle.acpi_regs.specs.declared.entry.HostMove.{HostMove}
 use Rattle.acpi_regs.specs.declared.event.Event.{Event}
 use Rattle.acpi_regs.specs.Event.{event_rank}
 use Rattle.acpi_regs.specs.Lock.{owner, seeker}
-use Rattle.ec_driver.specs.declared.wire.Move.{Move}
-use Rattle.ec_driver.specs.declared.wire.Move.TheVariants as move
 use Rattle.machine_desc.specs.Machine.{MachineData}
 use Rattle.machine_desc.specs.Weight.{weight_of}
 use Rattle.machine_history.specs.Events.{pending}
@@ -31,20 +29,9 @@ pub record BoardData : Type 0 where
   pub entries : List Entry
 
 -- who asked for the open transaction
-abbrev pub requester_of : Option Open → Option Actor
-requester_of None = None
-requester_of (Some o) = Some o.by
-
--- a move, where it is the host's, and where it is the controller's
-abbrev pub host_part : Option Move → Option HostMove
-host_part None = None
-host_part (Some (move.Host h)) = Some h
-host_part (Some (move.Ctl e)) = None
-
-abbrev pub ctl_part : Option Move → Option Effect
-ctl_part None = None
-ctl_part (Some (move.Host h)) = None
-ctl_part (Some (move.Ctl e)) = Some e
+abbrev pub opener_of : Option Open → Option Actor
+opener_of None = None
+opener_of (Some o) = Some o.by
 
 -- Beside its journal the board keeps what the definitions find by looking back, one line a subject. The journal is legal, and
 -- there is room for the entries and the jobs to come.

@@ -1,10 +1,10 @@
 -- The bytes of a machine's cells in memory, region by region (ACPI 6.5, section 5.5.2.4). The controller keeps its own.
-use Rattle.std.specs.Prelude.{ℕ, ◌≡◌, ◌<◌, Bool, true, false, not, List, [], length, map, Option, Some, None, slice_get, slice_index, slice_set, unwrap_or, if◌then◌else◌}
+use Rattle.std.specs.Prelude.{ℕ, ◌≡◌, ◌<◌, Bool, true, false, List, [], length, map, Option, Some, None, slice_get, slice_index, slice_set, unwrap_or, if◌then◌else◌}
 use Rattle.acpi_regs.specs.declared.entry.Cell.{Cell}
 use Rattle.acpi_regs.specs.declared.entry.Entry.{Entry}
 use Rattle.field_units.specs.Field.{RegionData, is_controller}
 use Rattle.machine_desc.specs.Machine.{MachineData}
-use Rattle.machine_history.specs.Cells.{IsCell}
+use Rattle.machine_history.specs.Acts.{is_memory_cell}
 use Rattle.machine_history.specs.Values.{value}
 
 abbrev pub bytes_in : List (List ℕ) → ℕ → List ℕ
@@ -34,10 +34,6 @@ abbrev pub is_controllers : Option RegionData → Bool
 is_controllers None = false
 is_controllers (Some region) = is_controller region.kind
 
--- the cell is in memory, or in no region
-abbrev pub is_memory : MachineData → Cell → Bool
-is_memory m c = not (is_controllers (slice_get m.regions c.region))
-
 pub record IsCells (m : MachineData) (past : List Entry) (cells : List (List ℕ)) : Type 0 where
-  pub within : (c : Cell) → IsCell m c → is_memory m c ≡ true → IsIn cells c
-  pub are : (c : Cell) → IsCell m c → is_memory m c ≡ true → byte_in cells c ≡ value m past c
+  pub within : (c : Cell) → is_memory_cell m c ≡ true → IsIn cells c
+  pub are : (c : Cell) → is_memory_cell m c ≡ true → byte_in cells c ≡ value m past c

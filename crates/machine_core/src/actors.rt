@@ -133,6 +133,7 @@ impl Actors {
     pub fn after(&mut self, machine: &Machine, made: &[Job], entry: Entry)
         requires stands { Stands machine.now (state_of self.old.states entry.actor).course }
         requires fits { FitsDeed machine.now (state_of self.old.states entry.actor).course entry.deed }
+        ensures size { length self.new.states ≡ length self.old.states }
         ensures own { seat entry.actor < 12 → Moves machine.now made.now entry.deed
             (state_of self.old.states entry.actor) (state_of self.new.states entry.actor) }
         ensures others { (a : Actor) → (seat a ≡ seat entry.actor → ⊥) → state_of self.new.states a ≡ state_of self.old.states a }

@@ -9,6 +9,7 @@ ghost use Rattle.machine_history.specs.Scripts.{job_plan, left_after};
 ghost use Rattle.machine_core.specs.Actors.{FitsDeed, FitsNext, Stands, byte_of, handler_of, left_by, left_in, plan_in, query_handler_of, query_left, script_at, stands_in};
 ghost use Rattle.machine_history.specs.Scripts as scripts;
 
+use crate::same::same_event;
 use acpi_regs::{Deed, Event, Request};
 use handler_script::{Act, Cursor, Script};
 use machine_desc::{ListedEvent, Machine, Query};
@@ -218,7 +219,7 @@ fn event_place(events: &[ListedEvent], event: Event) -> Option<usize>
         (λ i. handler_of (slice_get events.now i) ≡ Some (script_in events.now event)) }
 {
     for (place, listed) in events.iter().enumerate() {
-        if listed.listed.event == event {
+        if same_event(listed.listed.event, event) {
             return Some(place);
         }
     }

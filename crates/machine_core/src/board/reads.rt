@@ -1,5 +1,5 @@
 //! What the board tells of its journal.
-ghost use Rattle.std.specs.Prelude.{◌≡◌, ◌<◌, ◌↔◌, true, is_some, length, nat_lt, None, reverse, slice_get, IsTrue};
+ghost use Rattle.std.specs.Prelude.{◌≡◌, ◌<◌, ◌↔◌, ◌&&◌, true, false, is_some, length, nat_lt, None, reverse, slice_get, IsTrue};
 ghost use Rattle.acpi_regs.specs.Lock as lock;
 ghost use Rattle.machine_history.specs.Cells.{IsCell};
 ghost use Rattle.machine_history.specs.Complete.{Rest};
@@ -9,9 +9,11 @@ ghost use Rattle.machine_history.specs.Machine.{lists, pulses_of};
 ghost use Rattle.machine_history.specs.Scripts.{next_of};
 ghost use Rattle.machine_history.specs.Values as values;
 ghost use Rattle.machine_history.specs.Wire as wire;
-ghost use Rattle.machine_core.specs.Board.{IsFirstPending, IsFree, ctl_part, host_part, requester_of};
+ghost use Rattle.machine_core.specs.Board.{IsFirstPending, IsFree, opener_of};
 ghost use Rattle.machine_core.specs.Cells.{is_controllers};
+ghost use Rattle.ec_driver.specs.Driver.{effect_in, host_of};
 ghost use Rattle.acpi_regs.specs.declared.actor.Actor.{Actor};
+ghost use Rattle.acpi_regs.specs.declared.event.Event.{Event};
 ghost use Rattle.machine_core.specs.Jobs.{waiting};
 
 use super::Board;
@@ -109,21 +111,21 @@ impl Board {
 
     /// The actor whose begin is open.
     pub fn requester(&self) -> Option<Actor>
-        ensures { result ≡ requester_of (wire.open_of (reverse self.now.entries)) }
+        ensures { result ≡ opener_of (wire.open_of (reverse self.now.entries)) }
     {
         self.wire.requester()
     }
 
     /// The next move of the open transaction, where it is the host's (ACPI 6.5, section 12.3).
     pub fn host_move(&self) -> Option<HostMove>
-        ensures { result ≡ host_part (values.next_move self.now.machine (reverse self.now.entries)) }
+        ensures { result ≡ host_of (values.next_move self.now.machine (reverse self.now.entries)) }
     {
         self.wire.next_host()
     }
 
     /// The next move of the open transaction, where it is the controller's.
     pub fn ctl_move(&self) -> Option<Effect>
-        ensures { result ≡ ctl_part (values.next_move self.now.machine (reverse self.now.entries)) }
+        ensures { result ≡ effect_in (values.next_move self.now.machine (reverse self.now.entries)) }
     {
         self.wire.next_effect()
     }
@@ -146,7 +148,7 @@ impl Board {
     pub(super) fn is_open(&self) -> bool
         ensures { result ≡ is_some (wire.open_of (reverse self.now.entries)) }
     {
-        self.wire.is_open()
+        self.requester().is_some()
     }
 
     /// Whether the interrupt handler has claimed the controller's event since its last step.
@@ -175,12 +177,17 @@ impl Board {
     pub fn rest(&self) -> bool
         ensures { IsTrue result ↔ Rest self.now.machine (reverse self.now.entries) }
     {
+        let events = self.is_quiet();
+        let codes = self.wire.codes() == 0;
+        let jobs = both(self.all_started(), self.none_runs());
+        let lock = both(!self.is_open(), self.is_free());
+        both(both(events, codes), both(jobs, lock))
+    }
+
+    fn is_quiet(&self) -> bool
+        ensures { IsTrue result ↔ ((n : Event) → events.pending self.now.machine (reverse self.now.entries) n ≡ false) }
+    {
         self.pending().is_none()
-            && self.wire.codes() == 0
-            && self.all_started()
-            && self.none_runs()
-            && !self.is_open()
-            && self.is_free()
     }
 
     fn all_started(&self) -> bool
@@ -192,10 +199,12 @@ impl Board {
     fn none_runs(&self) -> bool
         ensures { IsTrue result ↔ ((a : Actor) → jobs.running (reverse self.now.entries) a ≡ None) }
     {
-        self.running(0).is_none()
-            && self.running(1).is_none()
-            && self.running(2).is_none()
-            && self.running(3).is_none()
+        all_none(
+            self.running(0),
+            self.running(1),
+            self.running(2),
+            self.running(3),
+        )
     }
 
     /// Nobody owns the Global Lock, and nobody competes for it.
@@ -206,4 +215,16 @@ impl Board {
             && self.lock.os_seeker.is_none()
             && self.lock.firmware_seeker.is_none()
     }
+}
+
+fn both(one: bool, other: bool) -> bool
+    ensures { result ≡ (one && other) }
+{
+    one && other
+}
+
+fn all_none(one: Option<u32>, two: Option<u32>, three: Option<u32>, four: Option<u32>) -> bool
+    ensures { IsTrue result ↔ ((one ≡ None) × (two ≡ None) × (three ≡ None) × (four ≡ None)) }
+{
+    one.is_none() && two.is_none() && three.is_none() && four.is_none()
 }

@@ -121,7 +121,7 @@ impl Board {
         names(own_event(&self.machine), event)
     }
 
-    fn waiting_codes(&self) -> usize
+    fn waiting_codes(&self) -> u32
         ensures { result ≡ length (codes (reverse self.now.entries)) }
     {
         self.wire.codes()
