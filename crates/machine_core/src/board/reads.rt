@@ -1,5 +1,5 @@
 //! What the board tells of its journal.
-ghost use Rattle.std.specs.Prelude.{◌≡◌, ◌<◌, ◌↔◌, ◌&&◌, true, false, is_some, length, nat_lt, None, reverse, slice_get, IsTrue};
+ghost use Rattle.std.specs.Prelude.{◌≡◌, ◌<◌, ◌↔◌, ◌&&◌, [], true, false, is_some, length, nat_lt, None, reverse, slice_get, IsTrue};
 ghost use Rattle.acpi_regs.specs.Lock as lock;
 ghost use Rattle.machine_history.specs.Cells.{IsCell};
 ghost use Rattle.machine_history.specs.Complete.{Rest};
@@ -178,9 +178,9 @@ impl Board {
         ensures { IsTrue result ↔ Rest self.now.machine (reverse self.now.entries) }
     {
         let events = self.is_quiet();
-        let codes = self.wire.codes() == 0;
+        let codes = self.no_code_waits();
         let jobs = both(self.all_started(), self.none_runs());
-        let lock = both(!self.is_open(), self.is_free());
+        let lock = both(self.is_closed(), self.is_free());
         both(both(events, codes), both(jobs, lock))
     }
 
@@ -188,6 +188,18 @@ impl Board {
         ensures { IsTrue result ↔ ((n : Event) → events.pending self.now.machine (reverse self.now.entries) n ≡ false) }
     {
         self.pending().is_none()
+    }
+
+    fn no_code_waits(&self) -> bool
+        ensures { IsTrue result ↔ (wire.codes (reverse self.now.entries) ≡ []) }
+    {
+        self.wire.codes() == 0
+    }
+
+    fn is_closed(&self) -> bool
+        ensures { IsTrue result ↔ (wire.open_of (reverse self.now.entries) ≡ None) }
+    {
+        self.requester().is_none()
     }
 
     fn all_started(&self) -> bool
