@@ -1,6 +1,9 @@
+pub mod Kept
+pub mod Places
 pub mod Queries
 pub mod Space
 pub mod Standing
+pub mod Steps
 pub mod Weight
 pub mod WirePlaces
 pub mod WireRows

@@ -130,7 +130,7 @@ impl Actors {
     }
 
     /// Makes what an entry does to its actor, where these jobs were made before.
-    pub fn after(&mut self, machine: &Machine, made: &[Job], entry: Entry)
+    pub fn go_on(&mut self, machine: &Machine, made: &[Job], entry: Entry)
         requires stands { Stands machine.now (state_of self.old.states entry.actor).course }
         requires fits { FitsDeed machine.now (state_of self.old.states entry.actor).course entry.deed }
         ensures size { length self.new.states ≡ length self.old.states }

@@ -117,10 +117,10 @@ impl Board {
         let touched = self.touched(entry);
         let made = self.made(entry);
         self.actors
-            .after(&self.machine, self.jobs.made.as_slice(), entry);
-        self.events.after(touched, entry.deed);
-        self.jobs.after(entry.deed, made);
-        self.cells.after(access_of(entry));
+            .go_on(&self.machine, self.jobs.made.as_slice(), entry);
+        self.events.touch(touched, entry.deed);
+        self.jobs.add(entry.deed, made);
+        self.cells.make(access_of(entry));
         self.lock = self.lock.after(entry.actor, entry.deed);
         self.wire.after(&self.machine, entry);
         self.journal.push_reserved(entry);

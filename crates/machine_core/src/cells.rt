@@ -109,7 +109,7 @@ impl Cells {
     }
 
     /// Makes an access.
-    pub fn after(&mut self, access: Option<Access>)
+    pub fn make(&mut self, access: Option<Access>)
         ensures values { (c : Cell) → IsIn self.old c
             → byte_in self.new c ≡ value_after c access (byte_in self.old c) }
         ensures kept { (c : Cell) → IsIn self.old c → IsIn self.new c }

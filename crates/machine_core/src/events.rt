@@ -45,19 +45,19 @@ impl Events {
     }
 
     /// Makes what an entry does to the event that it touches, where it touches one.
-    pub fn after(&mut self, touched: Option<Touched>, deed: Deed)
+    pub fn touch(&mut self, touched: Option<Touched>, deed: Deed)
         requires { length self.old.unlatched.items ≡ 261 }
         ensures size { length self.new.unlatched.items ≡ 261 }
         ensures slots { (n : Event) → slot_of self.new.chip n ≡ slot_after n touched (slot_of self.old.chip n) }
         ensures unlatched { (n : Event) → IsEvent n → unlatched_of self.new.unlatched.items n
             ≡ unlatched_after n deed (unlatched_of self.old.unlatched.items n) }
     {
-        touch(&mut self.chip, touched);
+        touch_one(&mut self.chip, touched);
         latch(&mut self.unlatched, deed);
     }
 }
 
-fn touch(chip: &mut EventChip, touched: Option<Touched>)
+fn touch_one(chip: &mut EventChip, touched: Option<Touched>)
     ensures { (n : Event) → slot_of chip.new n ≡ slot_after n touched (slot_of chip.old n) }
 {
     if let Some(touched) = touched {
@@ -101,9 +101,7 @@ fn pulses_in(alloc: Global, devices: &[Items<Event>]) -> Result<Vec<u32>, AllocE
     ensures counts { IfOk result (λ counts. (n : Event) → IsEvent n → unlatched_of counts.items n ≡ sum_by (times n) devices.now) }
 {
     let mut counts = no_pulses(alloc)?;
-    for pulses in devices {
-        add_pulses(&mut counts, pulses.as_slice());
-    }
+    add_devices(&mut counts, devices);
     Ok(counts)
 }
 
@@ -112,6 +110,19 @@ fn no_pulses(alloc: Global) -> Result<Vec<u32>, AllocError>
     ensures counts { IfOk result (λ counts. (k : ℕ) → slice_index counts.items k ≡ 0) }
 {
     vec![in alloc; 0; EVENTS]
+}
+
+/// Counts the pulses of all devices, where nothing was counted yet.
+fn add_devices(counts: &mut [u32], devices: &[Items<Event>])
+    requires size { length counts.old ≡ 261 }
+    requires zero { (k : ℕ) → slice_index counts.old k ≡ 0 }
+    requires few { length devices.now ≤ 8 }
+    requires short { All (λ pulses. length pulses ≤ 4096) devices.now }
+    ensures { (n : Event) → IsEvent n → unlatched_of counts.new n ≡ sum_by (times n) devices.now }
+{
+    for pulses in devices {
+        add_pulses(counts, pulses.as_slice());
+    }
 }
 
 /// Counts the pulses of a list.

@@ -26,7 +26,7 @@ impl Jobs {
     }
 
     /// The jobs after an entry that made this one, if it made one.
-    pub fn after(&mut self, deed: Deed, made: Option<Job>)
+    pub fn add(&mut self, deed: Deed, made: Option<Job>)
         requires room { length self.old.made.items < vec_capacity self.old.made }
         requires starts { self.old.starts + 1 < 2 ^ 32 }
         ensures made { self.new.made.items ≡ and_job self.old.made.items made }
