@@ -138,3 +138,7 @@ pub record IsActor (m : MachineData) (past : List Entry) (a : Actor) (state : Ac
 pub record IsActors (m : MachineData) (past : List Entry) (actors : Actors) : Type 0 where
   pub size : length actors.states ≡ 12
   pub each : (a : Actor) → IsActor m past a (state_of actors.states a)
+
+-- the firmware of this number is at the begin of its script
+abbrev pub IsFirst : ℕ → ActorState → Type 0
+IsFirst k state = (m : MachineData) → (state.words ≡ idle.words) × (left_by m state.course ≡ plan_in m (slice_get m.firmware k)) × Stands m state.course

@@ -1,7 +1,7 @@
 //! What is kept of each worker and firmware.
 ghost use Rattle.std.specs.Prelude.{◌≡◌, ◌<◌, ◌≤◌, length, [], None, false};
 ghost use Rattle.acpi_regs.specs.declared.actor.Actor.{Actor};
-ghost use Rattle.machine_core.specs.Actors.{FitsDeed, IsActors, Moves, Stands, idle, seat, state_of, words_after};
+ghost use Rattle.machine_core.specs.Actors.{FitsDeed, IsActors, IsFirst, Moves, Stands, idle, seat, state_of, words_after};
 ghost use Rattle.machine_desc.specs.Kept.{IsMachine};
 ghost use Rattle.machine_desc.specs.Machine.{MachineData};
 
@@ -91,6 +91,13 @@ impl ActorState {
         ActorState { words, course }
     }
 
+    /// The firmware of this number, before anything happened.
+    fn first(number: u8) -> ActorState
+        ensures { IsFirst number result }
+    {
+        ActorState::on(Course::begun(ScriptPlace::Firmware(number)))
+    }
+
     /// What is kept after a deed of the actor, where these jobs were made before.
     fn after(self, machine: &Machine, made: &[Job], deed: Deed) -> ActorState
         requires stands { Stands machine.now self.course }
@@ -111,8 +118,7 @@ impl Actors {
     {
         let mut states = [ActorState::on(Course::Ended); 12];
         for number in 0..8u8 {
-            states[4 + usize::from(number)] =
-                ActorState::on(Course::begun(ScriptPlace::Firmware(number)));
+            states[4 + usize::from(number)] = ActorState::first(number);
         }
         Actors { states }
     }
