@@ -109,6 +109,10 @@ kept_after m entries e lock lock' events events' actors actors' jobs_kept jobs' 
       small = kept.small;
     }
 
+-- the same, where the parts have other names
+pub kept_as : (m : MachineData) (entries entries' : List Entry) (lock : LockState) (events : Events) (actors : Actors) (jobs_kept : Jobs) (wire : WireData) (cells : List (List ℕ)) (room room' jobs_room jobs_room' : ℕ) → entries' ≡ entries → room' ≡ room → jobs_room' ≡ jobs_room → IsKept m entries lock events actors jobs_kept wire cells room jobs_room → IsKept m entries' lock events actors jobs_kept wire cells room' jobs_room'
+kept_as m entries entries' lock events actors jobs_kept wire cells room room' jobs_room jobs_room' one two three kept = rw (one, two, three) kept
+
 -- ---- at the start
 
 abbrev cells_of : Option RegionData → List ℕ
