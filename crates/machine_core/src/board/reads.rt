@@ -179,9 +179,11 @@ impl Board {
     {
         let events = self.is_quiet();
         let codes = self.no_code_waits();
+        let quiet = both(events, codes);
         let jobs = both(self.all_started(), self.none_runs());
         let lock = both(self.is_closed(), self.is_free());
-        both(both(events, codes), both(jobs, lock))
+        let work = both(quiet, jobs);
+        both(work, lock)
     }
 
     fn is_quiet(&self) -> bool

@@ -21,20 +21,21 @@ impl Board {
         if !self.may_make(actor, deed) {
             return Some(LogRule::Actor);
         }
-        if self.must_not(actor, deed) {
+        if !self.may_now(actor, deed) {
             return Some(LogRule::Seeker);
         }
         self.row(actor, deed)
     }
 
     /// From its disown to its leave an actor may only leave, and no other may.
-    fn must_not(&self, actor: Actor, deed: Deed) -> bool
-        ensures { result ≡ not (if legal.has_quit self.now.machine (reverse self.now.entries) actor then legal.is_leave deed else not (legal.is_leave deed)) }
+    fn may_now(&self, actor: Actor, deed: Deed) -> bool
+        ensures { result ≡ (if legal.has_quit self.now.machine (reverse self.now.entries) actor
+            then legal.is_leave deed else not (legal.is_leave deed)) }
     {
         if self.has_quit(actor) {
-            !is_leave(deed)
-        } else {
             is_leave(deed)
+        } else {
+            !is_leave(deed)
         }
     }
 
