@@ -1,6 +1,7 @@
 pub mod Kept
 pub mod Places
 pub mod Queries
+pub mod Resting
 pub mod Seats
 pub mod Space
 pub mod Standing

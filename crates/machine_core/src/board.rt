@@ -52,6 +52,7 @@ impl Board {
         requires { weight_of machine ≤ 1048576 }
         ensures { IfOk result (λ board. board ≡ record { machine = machine; entries = [] }) }
     {
+        machine.law_rules();
         let room = machine.weight() as u32;
         let journal = Vec::with_capacity(alloc, room as usize)?;
         let events = Events::new(alloc, &machine)?;

@@ -213,6 +213,8 @@ impl Board {
     fn none_runs(&self) -> bool
         ensures { IsTrue result ↔ ((a : Actor) → jobs.running (reverse self.now.entries) a ≡ None) }
     {
+        self.machine.law_rules();
+        self.law_legal();
         all_none(
             self.running(0),
             self.running(1),
