@@ -1,5 +1,6 @@
 -- How what two calls took or added joins, where it is told.
-use Rattle.std.proofs.Common.{ℕ, List, [], ◌++◌, Option, None, Some, refl, ◌∙◌, ap, append_assoc}
+use Rattle.std.proofs.Common.{◌≡◌, ℕ, ◌+◌, List, [], ◌++◌, drop, length, take, Option, None, Some, refl, sym, ◌∙◌, ap, append_assoc}
+use Rattle.std.proofs.Math.Seq.{take-add, take-append_seam}
 use Rattle.std.proofs.lemmas.List.{append-nil}
 use Rattle.std.specs.Io.KnownBytes.{Appends, Consumes, Keeps}
 
@@ -40,3 +41,16 @@ Appends-Keeps None mid new a p q = tt
 Appends-Keeps (Some xs) None new a p q = absurd p
 Appends-Keeps (Some xs) (Some ys) None a p q = absurd q
 Appends-Keeps (Some xs) (Some ys) (Some zs) a p q = q ∙ p
+
+-- what a call took into the room behind those that were taken, which stay as they were
+pub Consumes-behind : (old mid new : Option (List ℕ)) (kept room after : List ℕ) (filled count : ℕ)
+    → Consumes old mid (take filled kept) → take filled room ≡ take filled kept → take filled after ≡ take filled room
+    → Consumes mid new (take count (drop filled after)) → Consumes old new (take (filled + count) after)
+Consumes-behind old mid new kept room after filled count before same_room same_after taken =
+    let front = take filled after in
+    let had : Consumes old mid front = rw (same_after ∙ same_room) before in
+    rw (take-add filled count after) (Consumes-append old mid new front (take count (drop filled after)) had taken)
+
+-- a slice of a whole list, written back into it
+pub written_back : (len : ℕ) (after items : List ℕ) → length after ≡ len → take len (after ++ drop (length after) items) ≡ after
+written_back len after items e = ap (λ n. take n (after ++ drop (length after) items)) (sym e) ∙ take-append_seam after (drop (length after) items)

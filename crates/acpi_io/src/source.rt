@@ -1,4 +1,4 @@
-ghost use Rattle.std.specs.Prelude.{◌≡◌, ℕ, ◌+◌, ◌<◌, ◌≤◌, List, Option, length, IfOk, IsErrOf};
+ghost use Rattle.std.specs.Prelude.{◌≡◌, ℕ, ◌+◌, ◌*◌, ◌<◌, ◌≤◌, List, Option, length, take, drop, max, vec_len, OnOk, IsErrOf};
 ghost use Rattle.acpi_io.specs.declared.source.ReadAllFault.TheVariants.{Memory};
 ghost use Rattle.acpi_io.specs.Faults.{RoseByOne};
 ghost use Rattle.acpi_io.specs.Source.{AsksOncePerByte, ReadTakes, ReadsAll};
@@ -7,8 +7,8 @@ use std::alloc::{AllocError, Global};
 use std::error::Error;
 use std::fmt;
 
-/// The most bytes that [`read_all`] asks for at once.
-const PIECE: usize = 65536;
+/// The room that [`read_all`] begins with.
+const FIRST_ROOM: usize = 65536;
 
 /// What a read of a [`Source`] came to.
 #[derive(Debug, Drop, PartialEq)]
@@ -99,51 +99,71 @@ pub fn read_all<S: Source>(
     ensures asked { AsksOncePerByte (S.left source.old) (S.left source.new)
         (S.reads source.old) (S.reads source.new) result }
 {
-    let mut piece = empty_piece(alloc)?;
-    read_pieces(alloc, source, limit, piece.as_mut_slice())
-}
-
-fn empty_piece(alloc: Global) -> Result<Vec<u8>, AllocError>
-    ensures { IfOk result (λ piece. 0 < length piece.items) }
-{
-    vec![in alloc; 0u8; PIECE]
-}
-
-// Reads to the end, through a piece of any length above 0.
-fn read_pieces<S: Source>(
-    alloc: Global,
-    source: &mut S,
-    limit: usize,
-    piece: &mut [u8],
-) -> Result<Vec<u8>, ReadAllFault>
-    requires bounded { limit ≤ 67108864 }
-    requires has_room { 0 < length piece.old }
-    ensures ends { ReadsAll limit (S.left source.old) (S.left source.new) result }
-    ensures later { S.faults source.old ≤ S.faults source.new }
-    ensures cause { IsErrOf result ReadAllFault.ReadFault →
-        RoseByOne (S.faults source.old) (S.faults source.new) }
-    ensures told { ¬ IsErrOf result ReadAllFault.ReadFault →
-        S.faults source.new ≡ S.faults source.old }
-    ensures turns { S.reads source.new ≤ S.reads source.old + limit + 1 }
-    ensures asked { AsksOncePerByte (S.left source.old) (S.left source.new)
-        (S.reads source.old) (S.reads source.new) result }
-{
+    // What was read, in the room behind which nothing was read yet.
     let mut bytes = Vec::new(alloc);
+    let mut filled = 0;
     loop {
-        // One byte past the limit tells that there are too many.
-        let room = piece.len().min(limit + 1 - bytes.len());
-        let (into, _) = piece.split_at_mut(room);
-        match source.read(into) {
+        make_room(&mut bytes, filled, limit)?;
+        match read_behind(source, bytes.as_mut_slice(), filled) {
             ReadOutcome::Took(count) => {
-                // Before memory is asked for, so that want of it never stands for too many bytes.
-                if count > limit - bytes.len() {
+                filled += count;
+                // Before more room is asked for, so that want of memory never stands for too many bytes.
+                if filled > limit {
                     return Err(ReadAllFault::TooLarge);
                 }
-                let (taken, _) = into.split_at(count);
-                bytes.extend_from_slice(taken)?;
             }
-            ReadOutcome::End => return Ok(bytes),
+            ReadOutcome::End => {
+                bytes.truncate(filled);
+                return Ok(bytes);
+            }
             ReadOutcome::Failed => return Err(ReadAllFault::ReadFault),
         }
+    }
+}
+
+/// Reads into the room behind the first bytes, and leaves those as they are.
+fn read_behind<S: Source>(source: &mut S, bytes: &mut [u8], filled: usize) -> ReadOutcome
+    requires { filled < length bytes.old }
+    ensures kept { take filled bytes.new ≡ take filled bytes.old }
+    ensures bytes { ReadTakes result (S.left source.old) (S.left source.new) (drop filled bytes.new) }
+    ensures later { S.faults source.old ≤ S.faults source.new }
+    ensures cause { result ≡ ReadOutcome.Failed → RoseByOne (S.faults source.old) (S.faults source.new) }
+    ensures told { ¬ result ≡ ReadOutcome.Failed → S.faults source.new ≡ S.faults source.old }
+    ensures asked { S.reads source.new ≤ S.reads source.old + 1 }
+{
+    let (_, room) = bytes.split_at_mut(filled);
+    source.read(room)
+}
+
+/// Sees to it that there is room behind the first bytes, and leaves those as they are. There is never room for more
+/// than one byte past the limit, which tells that there are too many.
+fn make_room(bytes: &mut Vec<u8>, filled: usize, limit: usize) -> Result<(), AllocError>
+    requires bounded { limit ≤ 67108864 }
+    requires within { filled ≤ limit }
+    requires room { (filled ≤ vec_len bytes.old) × (vec_len bytes.old ≤ limit + 1) }
+    ensures kept { OnOk result (take filled bytes.new.items ≡ take filled bytes.old.items) }
+    ensures room { OnOk result ((filled < length bytes.new.items) × (length bytes.new.items ≤ limit + 1)) }
+{
+    let len = bytes.len();
+    if filled < len {
+        return Ok(());
+    }
+    bytes.resize(grown(len, limit), 0)
+}
+
+/// The next length of the room: at first 64 KiB, then twice what it was, and one byte past the limit at most.
+fn grown(len: usize, limit: usize) -> usize
+    requires bounded { limit ≤ 67108864 }
+    requires within { len ≤ limit }
+    ensures more { len < result }
+    ensures within { result ≤ limit + 1 }
+
+    // What is asked for depends on what was read, and not on the limit.
+    ensures sparing { result ≤ max 65536 (2 * (len + 1)) }
+{
+    if len >= limit / 2 {
+        limit + 1
+    } else {
+        FIRST_ROOM.max(2 * len).min(limit + 1)
     }
 }

@@ -1,4 +1,6 @@
 //! Bytes through sources and sinks in memory and over `std`, with failures at chosen calls.
+ghost use Rattle.std.specs.Prelude.{◌≤◌};
+
 use crate::{
     MemorySink, MemorySource, ReadAllFault, ReadOutcome, Sink, Source, StdSink, StdSource,
     WriteFault, WriteOutcome, read_all, write_all,
@@ -38,6 +40,27 @@ fn the_limit_is_the_most_bytes(rt: HostRuntime) -> Result<(), Fail> {
     );
     let mut empty = MemorySource::new(Vec::new(alloc), Vec::new(alloc), 1);
     assert_eq!(rt; read_all(alloc, &mut empty, 0)?.len(), 0);
+    Ok(())
+}
+
+/// How many bytes are read of so many, at most 100,000 in a call.
+fn read_of(alloc: Global, size: usize, limit: usize) -> Result<usize, ReadAllFault>
+    requires { limit ≤ 67108864 }
+{
+    let bytes = vec![in alloc; b'x'; size]?;
+    let mut source = MemorySource::new(bytes, Vec::new(alloc), 100_000);
+    let read = read_all(alloc, &mut source, limit)?;
+    Ok(read.len())
+}
+
+#[test]
+fn room_grows_up_to_the_limit(rt: HostRuntime) -> Result<(), Fail> {
+    let alloc = rt.alloc();
+    assert_eq!(rt; read_of(alloc, 131_073, 131_073)?, 131_073);
+    assert_eq!(rt;
+        read_of(alloc, 131_073, 131_072).err(),
+        Some(ReadAllFault::TooLarge)
+    );
     Ok(())
 }
 

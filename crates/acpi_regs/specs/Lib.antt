@@ -1,5 +1,6 @@
 pub mod Actor
 pub mod Comparisons
+pub mod Core
 pub mod Event
 pub mod Flags
 pub mod Geometry
@@ -7,4 +8,5 @@ pub mod GeometryParts
 pub mod History
 pub mod Lock
 pub mod Names
+pub mod Phases
 pub mod Places

@@ -22,6 +22,8 @@ ghost use Rattle.acpi_regs.specs.contracts.geometry.GpePlacePartialEq.TheImpl as
 ghost use Rattle.acpi_regs.specs.contracts.name.MethodNamePartialEq.TheImpl as method_name_eq;
 ghost use Rattle.acpi_regs.specs.contracts.name.NotANamePartialEq.TheImpl as not_a_name_eq;
 ghost use Rattle.acpi_regs.specs.contracts.memory.MemoryPartialEq.TheImpl as memory_eq;
+ghost use Rattle.acpi_regs.specs.contracts.phase.LockPhasePartialEq.TheImpl as lock_phase_eq;
+ghost use Rattle.acpi_regs.specs.contracts.phase.PulsePartialEq.TheImpl as pulse_eq;
 ghost use Rattle.acpi_regs.specs.contracts.flags.Pm1BitsPartialEq.TheImpl as pm1_bits_eq;
 ghost use Rattle.acpi_regs.specs.contracts.flags.EcStatusPartialEq.TheImpl as ec_status_eq;
 ghost use Rattle.acpi_regs.specs.contracts.event.FixedOrd.TheImpl as fixed_ord;
@@ -30,7 +32,7 @@ ghost use Rattle.acpi_regs.specs.contracts.actor.ActorOrd.TheImpl as actor_ord;
 
 use crate::{
     Actor, BadGeometry, Cell, Deed, EcStatus, Effect, Entry, Event, Fixed, GeometryField, GpePlace,
-    HostMove, Listed, Memory, MethodName, NotAName, Pm1Bits, Request, Side,
+    HostMove, Listed, LockPhase, Memory, MethodName, NotAName, Pm1Bits, Pulse, Request, Side,
 };
 
 /// Two values are `==` exactly where they are the same.
@@ -53,6 +55,8 @@ pub fn law_equality()
     ensures not_a_name { IsExact NotAName (not_a_name_eq.ghosts).eq }
     ensures memory { IsExact Memory (memory_eq.ghosts).eq }
     ensures pm1_bits { IsExact Pm1Bits (pm1_bits_eq.ghosts).eq }
+    ensures lock_phase { IsExact LockPhase (lock_phase_eq.ghosts).eq }
+    ensures pulse { IsExact Pulse (pulse_eq.ghosts).eq }
     ensures ec_status { IsExact EcStatus (ec_status_eq.ghosts).eq }
 {}
 

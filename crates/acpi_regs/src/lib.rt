@@ -6,8 +6,9 @@
 //! list of entries, the oldest first.
 //!
 //! The contracts cite the tables of ACPI in `specs/` (`Event`, `Geometry`, `Names`), and the crates above cite the
-//! definitions of histories there: the entries of one actor, the owner and the seekers of the Global Lock, and the side
-//! on which an actor stands. [`laws`] has what follows from the definitions: `==` holds between equal values
+//! definitions of histories there: the entries of one actor, the owner and the seekers of the Global Lock, its signals, and
+//! the side on which an actor stands. So they do for what actors share between their steps: the core, with each actor's
+//! phase (`Core`, `Phases`). [`laws`] has what follows from the definitions: `==` holds between equal values
 //! alone, events and actors come in their order, and names and places fit each other.
 #![tactic(auto)]
 
@@ -19,6 +20,7 @@ mod geometry;
 pub mod laws;
 mod memory;
 mod name;
+mod phase;
 
 pub use actor::{Actor, Side};
 pub use entry::{Cell, Deed, Effect, Entry, HostMove, Request};
@@ -27,6 +29,7 @@ pub use flags::{EcStatus, Pm1Bits};
 pub use geometry::{BadGeometry, GeometryField, GpeGeometry, GpePlace};
 pub use memory::Memory;
 pub use name::{MethodName, NotAName, byte_named, digit_byte};
+pub use phase::{LockPhase, Pulse};
 
 #[cfg(test)]
 mod tests;

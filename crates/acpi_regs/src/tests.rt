@@ -1,7 +1,7 @@
 //! Values of ACPI 6.5, section 4.8.3.1, and the order in which events and actors are served.
 use crate::{
-    Actor, BadGeometry, EcStatus, Event, Fixed, GeometryField, GpeGeometry, GpePlace, Memory,
-    MethodName, NotAName, Pm1Bits, Side,
+    Actor, BadGeometry, Deed, EcStatus, Event, Fixed, GeometryField, GpeGeometry, GpePlace,
+    LockPhase, Memory, MethodName, NotAName, Pm1Bits, Side,
 };
 use bitflags::Flags;
 use std::alloc::AllocError;
@@ -177,4 +177,26 @@ fn gpes_stand_in_the_status_bytes_of_their_blocks(rt: HostRuntime) {
             assert_eq!(rt; geometry.place_of(event), wanted);
         }
     }
+}
+
+#[test]
+fn each_entry_of_the_lock_leads_to_the_next_phase(rt: HostRuntime) {
+    let episode = [
+        (LockPhase::Idle, Deed::Seek, LockPhase::Seeking(None)),
+        (LockPhase::Marked, Deed::Busy, LockPhase::Waiting),
+        (LockPhase::Waiting, Deed::Woken, LockPhase::Seeking(None)),
+        (LockPhase::Won, Deed::Own, LockPhase::Owning),
+        (LockPhase::Owning, Deed::Disown, LockPhase::Quit),
+        (LockPhase::Gone(true), Deed::Leave(true), LockPhase::Idle),
+    ];
+    for (before, deed, after) in episode {
+        assert!(rt; before.allows(deed));
+        assert_eq!(rt; before.lock_deed(), Some(deed));
+        assert_eq!(rt; before.moved(deed), after);
+        assert_eq!(rt; after.is_idle(), after == LockPhase::Idle);
+    }
+    assert!(rt; !LockPhase::Gone(false).allows(Deed::Leave(true)));
+    assert!(rt; !LockPhase::Owning.allows(Deed::Seek));
+    assert_eq!(rt; LockPhase::Quit.lock_deed(), None);
+    assert_eq!(rt; LockPhase::Owning.moved(Deed::Start(0)), LockPhase::Owning);
 }

@@ -4,5 +4,6 @@ pub mod Exact
 pub mod Lefts
 pub mod Locks
 pub mod Plans
+pub mod Runs
 pub mod Sounds
 pub mod Stages

@@ -1,6 +1,6 @@
 //! Which operations may stand where.
-ghost use Rattle.std.specs.Prelude.{◌≡◌, ◌≤◌, Bool, List, length};
-ghost use Rattle.std.specs.List.{list_all};
+ghost use Rattle.std.specs.Prelude.{◌≡◌, ◌≤◌, ◌∷◌, Bool, List, length};
+ghost use Rattle.std.specs.List.{prefix_len};
 ghost use Rattle.handler_script.specs.Accepts.{is_allowed, is_balanced, is_known, is_no_hold, is_sound_skip, nothing_forbidden, op_fault, open_after, script_fault};
 ghost use Rattle.handler_script.specs.declared.op.Op.{Op};
 
@@ -44,21 +44,31 @@ fn is_no_hold(op: Op) -> bool
     !matches!(op, Op::Hold | Op::Free)
 }
 
-fn no_holds(ops: &[Op]) -> bool
-    ensures { result ≡ list_all is_no_hold ops.now }
+/// How many operations stand before the first hold or free, all of them where there is none.
+fn run_of(ops: &[Op]) -> usize
+    ensures { result ≡ prefix_len is_no_hold ops.now }
 {
-    ops.iter().all(|op| is_no_hold(*op))
+    ops.iter().take_while(|op| is_no_hold(**op)).count()
 }
 
-/// As many operations follow as a skip passes over, at least one, and none of them is a hold or a free.
-fn is_sound_skip(op: Op, rest: &[Op]) -> bool
-    ensures { result ≡ is_sound_skip op rest.now }
+/// The same for the operations behind the first of some, where it is `run` for all of them. They are looked at only
+/// where the first is a hold or a free, so that a script is gone through once.
+fn run_behind(run: usize, rest: &[Op]) -> usize
+    ensures { (o : Op) → run ≡ prefix_len is_no_hold (o ∷ rest.now) → result ≡ prefix_len is_no_hold rest.now }
+{
+    match run.checked_sub(1) {
+        Some(left) => left,
+        None => run_of(rest),
+    }
+}
+
+/// As many operations follow as a skip passes over, at least one, and none of them is a hold or a free: so many stand before
+/// the first of these.
+fn is_sound_skip(op: Op, run: usize) -> bool
+    ensures { (rest : List Op) → run ≡ prefix_len is_no_hold rest → result ≡ is_sound_skip op rest }
 {
     match op {
-        Op::Skip(_, count) => {
-            let count = usize::from(count);
-            count > 0 && count <= rest.len() && no_holds(rest.split_at(count).0)
-        }
+        Op::Skip(_, count) => count > 0 && usize::from(count) <= run,
         _ => true,
     }
 }
@@ -82,7 +92,8 @@ fn is_balanced(op: Op, held: bool) -> bool
     }
 }
 
-/// The fault of an operation that `rest` follows, where a hold is open or not.
+/// The fault of an operation, where a hold is open or not, and so many operations stand behind it before the next hold or
+/// free.
 fn op_fault<R: EventRules>(
     rules: &R,
     side: Side,
@@ -90,9 +101,10 @@ fn op_fault<R: EventRules>(
     held: bool,
     place: u16,
     op: Op,
-    rest: &[Op],
+    run: usize,
 ) -> Option<ScriptFault>
-    ensures { result ≡ op_fault (R.forbids rules.now) side count held place op rest.now }
+    ensures { (rest : List Op) → run ≡ prefix_len is_no_hold rest →
+        result ≡ op_fault (R.forbids rules.now) side count held place op rest }
 {
     if !is_allowed(op, side) || rules.forbids(op) {
         return Some(ScriptFault::NotAllowed(place));
@@ -100,7 +112,7 @@ fn op_fault<R: EventRules>(
     if !is_known(op, count) {
         return Some(ScriptFault::UnknownField(place));
     }
-    if !is_sound_skip(op, rest) {
+    if !is_sound_skip(op, run) {
         return Some(ScriptFault::BadSkip(place));
     }
     if is_balanced(op, held) {
@@ -132,10 +144,12 @@ pub(crate) fn first_fault<R: EventRules>(
     ensures { result ≡ script_fault (R.forbids rules.now) side count ops.now }
 {
     let mut hold = None;
+    let mut run = run_of(ops);
     for (i, op) in ops.iter().enumerate() {
         let place = i as u16;
         let (_, rest) = ops.split_at(i + 1);
-        let fault = op_fault(rules, side, count, hold.is_some(), place, *op, rest);
+        run = run_behind(run, rest);
+        let fault = op_fault(rules, side, count, hold.is_some(), place, *op, run);
         if fault.is_some() {
             return fault;
         }

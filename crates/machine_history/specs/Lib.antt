@@ -3,8 +3,12 @@ pub mod Cells
 pub mod Complete
 pub mod Events
 pub mod Jobs
+pub mod Last
 pub mod Legal
 pub mod Machine
+pub mod Played
 pub mod Scripts
+pub mod Sentences
+pub mod Steps
 pub mod Values
 pub mod Wire

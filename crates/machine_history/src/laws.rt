@@ -1,15 +1,28 @@
 //! Laws over the definitions of this crate, each for every machine and history. A law is a function with nothing
 //! to do, whose contract says it; that of a comparison makes the comparison.
-ghost use Rattle.std.specs.Prelude.{◌≡◌, ◌↔◌, List, IsTrue};
-ghost use Rattle.acpi_regs.specs.declared.entry.Entry.{Entry};
+ghost use Rattle.std.specs.Prelude.{◌≡◌, ◌↔◌, ◌≤◌, Bool, false, List, length, reverse, None, IsTrue};
 ghost use Rattle.acpi_regs.specs.declared.actor.Actor.{Actor};
+ghost use Rattle.acpi_regs.specs.declared.actor.Side.{Side};
+ghost use Rattle.acpi_regs.specs.declared.entry.Cell.{Cell};
+ghost use Rattle.acpi_regs.specs.declared.entry.Entry.{Entry};
+ghost use Rattle.acpi_regs.specs.Event.{gbl};
+ghost use Rattle.acpi_regs.specs.Lock.{gbl_status, has_disowned, has_owned, is_busy, owner, seeker, wake};
+ghost use Rattle.acpi_regs.specs.declared.actor.Actor.{Actor};
+ghost use Rattle.acpi_regs.specs.declared.event.Event.{Event};
 ghost use Rattle.handler_script.specs.Each.{Each};
 ghost use Rattle.machine_desc.specs.Kept.{IsMachine};
 ghost use Rattle.machine_desc.specs.Machine.{MachineData};
+ghost use Rattle.machine_desc.specs.Weight.{weight_of};
 ghost use Rattle.machine_history.specs.Acts.{fits};
+ghost use Rattle.machine_history.specs.Cells.{first_byte};
 ghost use Rattle.machine_history.specs.Complete.{Complete};
+ghost use Rattle.machine_history.specs.Events.{held, line, status};
+ghost use Rattle.machine_history.specs.Jobs.{running};
+ghost use Rattle.machine_history.specs.Last.{IsLast, burst_set, busy_set, disowned_set, due_set, gbl_set, held_set, line_set, owned_set, owner_set, running_set, seeker_set, status_set, told, value_set, wake_set};
 ghost use Rattle.machine_history.specs.Legal.{EachAllowed, Legal};
 ghost use Rattle.machine_history.specs.Scripts.{plan_left};
+ghost use Rattle.machine_history.specs.Values.{value};
+ghost use Rattle.machine_history.specs.Wire.{burst, due};
 
 use crate::LogRule;
 
@@ -23,6 +36,60 @@ pub fn law_complete_legal()
 pub fn law_acts_fit()
     ensures { (m : MachineData) (past : List Entry) (a : Actor)
         → IsMachine m → Each (fits m) (plan_left m past a) }
+{}
+
+/// A history is legal exactly where each of its entries is allowed after those before it.
+pub fn law_legal_each()
+    ensures { (m : MachineData) (history : List Entry) → Legal m history ↔ EachAllowed m history }
+{}
+
+/// A legal history of a machine has at most as many entries as the machine's weight.
+pub fn law_weight()
+    ensures { (m : MachineData) (history : List Entry) → IsMachine m → Legal m history → length history ≤ weight_of m }
+{}
+
+/// The last own or disown makes the owner of the Global Lock, the last seek or leave of a side its seeker. What an actor has
+/// done since its seek is told by the last of its own entries that say so, and the wake of a side by the last entry that sets
+/// or clears it.
+pub fn law_lock_last()
+    ensures owner { (history : List Entry) → IsLast (told owner_set) None history (owner (reverse history)) }
+    ensures seeker { (s : Side) (history : List Entry) → IsLast (told (seeker_set s)) None history (seeker s (reverse history)) }
+    ensures owned { (a : Actor) (history : List Entry) → IsLast (told (owned_set a)) false history (has_owned a (reverse history)) }
+    ensures disowned { (a : Actor) (history : List Entry) → IsLast (told (disowned_set a)) false history (has_disowned a (reverse history)) }
+    ensures busy { (a : Actor) (history : List Entry) → IsLast (told (busy_set a)) false history (is_busy a (reverse history)) }
+    ensures wake { (s : Side) (history : List Entry) → IsLast (told (wake_set s)) false history (wake s (reverse history)) }
+    ensures gbl { (history : List Entry) → IsLast (told gbl_set) false history (gbl_status (reverse history)) }
+{}
+
+/// What the lock's definitions tell of the Global Lock's event is the status of that event.
+pub fn law_gbl_status()
+    ensures { (m : MachineData) (history : List Entry) → IsMachine m → gbl_status (reverse history) ≡ status m (reverse history) gbl }
+{}
+
+/// The line of an event is asserted where the last assert or drop of it is an assert. An event is held from its last claim to
+/// the finish of the job that the claim made. Its status is what the last entry made of it that sets or clears it.
+pub fn law_events_last()
+    ensures line { (m : MachineData) (n : Event) (history : List Entry) → IsLast (told (line_set n)) false history (line m (reverse history) n) }
+    ensures held { (m : MachineData) (n : Event) (history : List Entry) → IsLast (held_set m n) false history (held m (reverse history) n) }
+    ensures status { (m : MachineData) (n : Event) (history : List Entry) → IsLast (status_set m n) false history (status m (reverse history) n) }
+{}
+
+/// A worker runs the job that the last of its own starts and finishes started.
+pub fn law_running_last()
+    ensures { (a : Actor) (history : List Entry) → IsLast (told (running_set a)) None history (running (reverse history) a) }
+{}
+
+/// Burst mode is on where the last Out of burst enable, Taken of burst disable or Calm is an Out of burst enable. It is the
+/// interrupt handler's turn where the last of its claims of the controller's event and its steps is a claim.
+pub fn law_wire_last()
+    ensures burst { (history : List Entry) → IsLast burst_set false history (burst (reverse history)) }
+    ensures due { (m : MachineData) (history : List Entry) → IsLast (told (due_set m)) false history (due m (reverse history)) }
+{}
+
+/// The value of a cell is the byte of the last write to it, by whichever actor and also through the controller, else the
+/// description's.
+pub fn law_value_last()
+    ensures { (m : MachineData) (c : Cell) (history : List Entry) → IsLast (value_set m c) (first_byte m c) history (value m (reverse history) c) }
 {}
 
 /// Conditions of the table of entries are equal, by `==`, exactly where they are the same.

@@ -1,0 +1,8 @@
+use Rattle.machine_history.proofs.LastEntries.{burst_last, due_last}
+use Rattle.machine_history.proofs.laws.law_wire_last.Goals as goal
+
+pub returns-clause-burst : goal.returns-clause-burst
+returns-clause-burst c = burst_last
+
+pub returns-clause-due : goal.returns-clause-due
+returns-clause-due c = due_last
