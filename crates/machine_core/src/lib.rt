@@ -1,22 +1,15 @@
 //! The board: a machine, the journal of what happened on it, and what follows from the journal.
-//!
-//! It stands on `machine_desc`, `handler_script` and `acpi_regs`. [`Board::can`] is true exactly where the journal with
-//! one more entry is legal (`specs/Legal.antt`), and [`Board::apply`] appends that entry and nothing else. Each reader
-//! gives the value that a definition of `specs/` has for the journal, in constant time: the board keeps beside the
-//! journal what the definitions find by looking back.
-//!
-//! The laws in [`laws`] tie the definitions to the sentences that they stand for.
 #![tactic(auto)]
 
+mod actors;
 mod board;
 mod cells;
-mod cursors;
-pub mod laws;
-mod rule;
+mod course;
+mod events;
+mod jobs;
+mod lock;
+mod same;
 mod wire;
 
 pub use board::Board;
-pub use rule::LogRule;
-
-#[cfg(test)]
-mod tests;
+pub use machine_history::LogRule;
