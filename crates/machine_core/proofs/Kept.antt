@@ -26,7 +26,7 @@ use Rattle.machine_core.specs.Lock.{lock_after, lock_of}
 use Rattle.machine_core.specs.Wire.{IsWire, Takes, WireData, wire_after}
 use Rattle.machine_core.proofs.Standing.{fits_deed}
 use Rattle.machine_core.proofs.Steps.{actors_step, cells_step, events_step, jobs_step, jobs_within, starts_within}
-use Rattle.machine_core.proofs.Weight.{weight_bounds}
+use Rattle.machine_history.proofs.Whole.{weight_bounds}
 use Rattle.machine_core.proofs.WireRows.{wire_needs}
 use Rattle.machine_core.proofs.WireSteps.{wire_step, wire_takes}
 use Rattle.machine_history.specs.declared.parts.Touched.{Touched}

@@ -6,7 +6,6 @@ pub mod Seats
 pub mod Space
 pub mod Standing
 pub mod Steps
-pub mod Weight
 pub mod WirePlaces
 pub mod WireRows
 pub mod WireSteps

@@ -108,7 +108,7 @@ impl Board {
     }
 
     /// Whether the machine lists the event.
-    pub(super) fn lists(&self, event: Event) -> bool
+    pub(crate) fn lists(&self, event: Event) -> bool
         ensures { result ≡ machines.lists self.now.machine event }
     {
         self.events.chip.slot(event).kind.is_listed()
