@@ -143,7 +143,10 @@ fn a_code_starts_one_run_and_none_for_00(rt: HostRuntime) -> Result<(), Fail> {
 fn codes_are_given_in_order(rt: HostRuntime) -> Result<(), Fail> {
     let mut parts = with_controller(rt.alloc(), true, false, &[Op::Push(1), Op::Push(255)])?;
     if let Some(controller) = &mut parts.controller {
-        let queries = vec![in rt.alloc(); notifying(rt.alloc(), 1, 3)?, notifying(rt.alloc(), 255, 4)?]?;
+        let queries = vec![in rt.alloc();
+            notifying(rt.alloc(), 1, 3)?,
+            notifying(rt.alloc(), 255, 4)?,
+        ]?;
         controller.queries = Items::new(queries);
     }
     let mut board = board_of(rt.alloc(), parts)?;

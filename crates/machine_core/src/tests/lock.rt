@@ -81,10 +81,7 @@ fn a_busy_worker_may_say_so_after_the_signal(rt: HostRuntime) -> Result<(), Fail
 #[test]
 fn signals_that_nobody_waits_for_are_claimed(rt: HostRuntime) -> Result<(), Fail> {
     let mut raised = board_of(rt.alloc(), with_script(rt.alloc(), &[Op::Raise(GBL)])?)?;
-    follow(
-        &mut raised,
-        &[f0(Deed::Raise(GBL)), int(Deed::Claim(GBL))],
-    )?;
+    follow(&mut raised, &[f0(Deed::Raise(GBL)), int(Deed::Claim(GBL))])?;
     assert!(rt; raised.rest() && raised.wake(Side::Os));
 
     let mut pulsed = board_of(rt.alloc(), with_pulses(rt.alloc(), &[GBL, GBL])?)?;

@@ -134,7 +134,7 @@ fn no_other_entry_than_the_next_may_be_made(rt: HostRuntime) -> Result<(), Fail>
         (by_firmware(0, Deed::Write(cell(0, 1), 90)), LogRule::Next),
         (by_firmware(0, Deed::Write(cell(1, 0), 90)), LogRule::Next),
         (by_firmware(0, Deed::Read(cell(0, 0), 7)), LogRule::Next),
-        (by_firmware(0, Deed::Seek), LogRule::Actor),
+        (by_firmware(0, Deed::Seek), LogRule::Next),
         (by_firmware(1, Deed::Write(cell(0, 0), 90)), LogRule::Next),
         (by_firmware(1, Deed::Read(cell(1, 0), 12)), LogRule::Value),
         (by_firmware(2, Deed::Write(cell(0, 0), 90)), LogRule::Actor),

@@ -1,7 +1,7 @@
 //! Each condition of each row of the table of entries fails once, under its name.
 use super::machines::{
-    GBL, OWN, PWR, SLP, begins, board_of, by, cell, ec, f0, field, follow, int, listed, listing, poll,
-    reading_space, refuses, shared_cell, w0, w1, with_controller, with_pulses,
+    GBL, OWN, PWR, SLP, begins, board_of, by, cell, ec, f0, field, follow, int, listed, listing,
+    poll, reading_space, refuses, shared_cell, w0, w1, with_controller, with_pulses,
 };
 use crate::LogRule::{
     self, Begin, Busy, Due, Job, Latch, Next, Owner, Seeker, Status, Value, Wake, Wire,
@@ -180,7 +180,10 @@ fn what_fails_of_the_rows_of_the_controller(rt: HostRuntime) -> Result<(), Fail>
 fn no_latch_without_a_pulse(rt: HostRuntime) -> Result<(), Fail> {
     let mut board = board_of(rt.alloc(), with_pulses(rt.alloc(), &[GBL])?)?;
     follow(&mut board, &[poll(Deed::Latch(GBL))])?;
-    let cases = [(int(Deed::Latch(GBL)), Latch), (int(Deed::Latch(PWR)), Latch)];
+    let cases = [
+        (int(Deed::Latch(GBL)), Latch),
+        (int(Deed::Latch(PWR)), Latch),
+    ];
     assert!(rt; refuses(&board, &cases));
     Ok(())
 }
