@@ -1,4 +1,3 @@
 pub mod Exact
 pub mod RunLemmas
 pub mod Simple
-pub mod Writing

@@ -1,5 +1,3 @@
 pub mod Built
 pub mod Ending
 pub mod Run
-pub mod Text
-pub mod Written

@@ -12,7 +12,7 @@ use Rattle.machine_reader.specs.declared.fault.ReaderFault.TheVariants as fault
 use Rattle.machine_reader.specs.Canonical.{canonical}
 use Rattle.machine_reader.specs.Description.{Describes}
 use Rattle.acpi_commands.specs.Built.{is_built}
-use Rattle.acpi_commands.specs.Text.{log_text}
+use Rattle.history_text.specs.Text.{log_text}
 use Rattle.acpi_commands.specs.declared.status.Status.{Status}
 use Rattle.acpi_commands.specs.declared.status.Status.TheVariants as status
 

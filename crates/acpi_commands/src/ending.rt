@@ -1,16 +1,17 @@
-ghost use Rattle.std.specs.Prelude.{◌≡◌, ◌≤◌, ◌++◌, ◌∷◌, OnErr, OnOk};
+ghost use Rattle.std.specs.Prelude.{◌≡◌, ◌≤◌, ◌++◌, ◌∷◌, OnErr, OnOk, decimal};
 ghost use Rattle.std.specs.Process.{exit_status};
 ghost use Rattle.std.specs.Io.KnownBytes.{Appends};
 ghost use Rattle.acpi_io.specs.Faults.{RoseByOne};
 ghost use Rattle.acpi_io.specs.Sink.{AddsFront, WritesAll};
-ghost use Rattle.acpi_commands.specs.Ending.{carried, error_line, status_line};
+ghost use Rattle.acpi_commands.specs.Ending.{bad_machine_text, carried, error_line, status_line};
 ghost use Rattle.acpi_commands.specs.Run.{code_of};
-ghost use Rattle.acpi_commands.specs.Written.{GoesOn};
+ghost use Rattle.history_text.specs.Written.{GoesOn};
 
-use crate::history_text::{Line, Pieces};
 use crate::names::{name_of, part_name, rule_name};
 use crate::status::Status;
 use acpi_io::{Sink, WriteFault};
+use history_text::{Line, Pieces};
+use itoa::Buffer;
 use machine_desc::BadMachine;
 use machine_reader::PathText;
 use std::fmt;
@@ -69,8 +70,8 @@ fn put_carried<K: Sink>(
 {
     match status {
         Status::BadShape(path) => put_path(pieces, errors, path),
-        Status::BadMachine(bad) => pieces.put(errors, Line::of_bad_machine(bad).as_slice()),
-        Status::TooLong(weight) => pieces.put(errors, Line::of_weight(*weight).as_slice()),
+        Status::BadMachine(bad) => pieces.put(errors, line_of_bad_machine(bad).as_slice()),
+        Status::TooLong(weight) => pieces.put(errors, line_of_weight(*weight).as_slice()),
         _ => Ok(()),
     }
 }
@@ -111,4 +112,31 @@ fn write_bad_machine<W: fmt::Write>(f: &mut fmt::Formatter<W>, bad: &BadMachine)
     let rule = rule_name(bad.rule);
     let part = part_name(bad.place.part);
     write!(f, " {rule} {part} {} {}", bad.place.index, bad.place.op)
+}
+
+/// A space, and what is said of a machine that breaks a rule.
+fn line_of_bad_machine(bad: &BadMachine) -> Line
+    ensures { result ≡ 32 ∷ bad_machine_text bad.now }
+{
+    let mut line = Line::new();
+    line.push(b' ');
+    line.push_text(rule_name(bad.rule).as_bytes());
+    line.push(b' ');
+    line.push_text(part_name(bad.place.part).as_bytes());
+    line.push(b' ');
+    line.push_number(bad.place.index);
+    line.push(b' ');
+    line.push_number(bad.place.op);
+    line
+}
+
+/// A space, and a weight in decimal.
+fn line_of_weight(weight: u64) -> Line
+    ensures { result ≡ 32 ∷ decimal weight }
+{
+    let mut digits = Buffer::new();
+    let mut line = Line::new();
+    line.push(b' ');
+    line.push_text(digits.format(weight).as_bytes());
+    line
 }

@@ -11,7 +11,6 @@
 
 mod built;
 mod ending;
-mod history_text;
 pub mod laws;
 mod names;
 mod play;

@@ -7,7 +7,7 @@ ghost use Rattle.machine_reader.specs.Description.{Describes};
 ghost use Rattle.acpi_commands.specs.Run.{FromBytes, Refuses, status_of, text};
 
 use crate::built::is_built;
-use crate::history_text::write_log;
+use history_text::write_log;
 use crate::play::play;
 use crate::prepared::Prepared;
 use crate::status::Status;

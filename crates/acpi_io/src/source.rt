@@ -99,7 +99,7 @@ pub fn read_all<S: Source>(
     ensures asked { AsksOncePerByte (S.left source.old) (S.left source.new)
         (S.reads source.old) (S.reads source.new) result }
 {
-    // What was read, in the room behind which nothing was read yet.
+    // The first `filled` were read, and behind them is room for more.
     let mut bytes = Vec::new(alloc);
     let mut filled = 0;
     loop {

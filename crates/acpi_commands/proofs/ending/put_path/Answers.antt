@@ -1,6 +1,6 @@
 use Rattle.std.proofs.Common.{◌∷◌, [], ◌++◌}
 use Rattle.std.proofs.lemmas.Result.{err_from_is_err_and}
-use Rattle.acpi_commands.proofs.Writing.{fails_before, then_goes_on}
+use Rattle.history_text.proofs.Writing.{fails_before, then_goes_on}
 use Rattle.acpi_commands.proofs.ending.put_path.Goals as goal
 
 pub returns-in_err-put-clause-goes_on : goal.returns-in_err-put-clause-goes_on

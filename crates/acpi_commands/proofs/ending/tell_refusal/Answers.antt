@@ -2,7 +2,7 @@ use Rattle.std.proofs.Common.{◌≡◌, List, ℕ, ◌∷◌, [], ◌++◌, cod
 use Rattle.std.proofs.lemmas.Result.{err_from_is_err_and}
 use Rattle.acpi_io.specs.Sink.{AddsFront, WritesAll}
 use Rattle.acpi_commands.specs.Ending.{carried, name_of, status_line}
-use Rattle.acpi_commands.proofs.Writing.{Leaves-WritesAll, fails_before, then_Leaves, then_fails}
+use Rattle.history_text.proofs.Writing.{Leaves-WritesAll, fails_before, then_Leaves, then_fails}
 use Rattle.acpi_commands.proofs.ending.tell_refusal.Goals as goal
 
 abbrev head : List ℕ

@@ -1,11 +1,11 @@
 ghost use Rattle.std.specs.Prelude.{◌≡◌, ◌≤◌, ◌++◌, OnErr, OnOk};
 ghost use Rattle.acpi_io.specs.Faults.{RoseByOne};
 ghost use Rattle.acpi_io.specs.Sink.{WritesAll};
-ghost use Rattle.acpi_commands.specs.Text.{entry_lines, log_text, machine_line};
-ghost use Rattle.acpi_commands.specs.Written.{GoesOn};
+ghost use Rattle.history_text.specs.Text.{entry_lines, log_text, machine_line};
+ghost use Rattle.history_text.specs.Written.{GoesOn};
 
-use super::line::{line_of_entry, line_of_rest};
-use super::pieces::Pieces;
+use crate::line::{line_of_entry, line_of_rest};
+use crate::pieces::Pieces;
 use acpi_io::{Sink, WriteFault};
 use machine_core::Board;
 

@@ -1,7 +1,7 @@
 use Rattle.std.proofs.Common.{◌∙◌}
 use Rattle.std.proofs.lemmas.Result.{err_from_is_err_and}
-use Rattle.acpi_commands.proofs.Writing.{entry_put, entry_failed}
-use Rattle.acpi_commands.proofs.history_text.log.put_entries.Goals as goal
+use Rattle.history_text.proofs.Writing.{entry_put, entry_failed}
+use Rattle.history_text.proofs.log.put_entries.Goals as goal
 
 pub returns-in_err-put-clause-goes_on : goal.returns-in_err-put-clause-goes_on
 returns-in_err-put-clause-goes_on g c =

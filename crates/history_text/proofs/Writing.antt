@@ -6,8 +6,8 @@ use Rattle.acpi_io.specs.Sink.{AddsFront, WritesAll}
 use Rattle.acpi_io.specs.declared.sink.WriteFault.{WriteFault}
 use Rattle.acpi_io.proofs.KnownBytes.{Appends-nil, Appends-append}
 use Rattle.acpi_regs.specs.declared.entry.Entry.{Entry}
-use Rattle.acpi_commands.specs.Text.{entry_line, entry_lines}
-use Rattle.acpi_commands.specs.Written.{Leaves, GoesOn}
+use Rattle.history_text.specs.Text.{entry_line, entry_lines}
+use Rattle.history_text.specs.Written.{Leaves, GoesOn}
 
 pub Leaves-nothing : (known : Option (List ℕ)) (waiting : List ℕ) → Leaves known known waiting waiting
 Leaves-nothing known waiting = ([], refl, Appends-nil known)

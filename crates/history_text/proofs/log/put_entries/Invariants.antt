@@ -1,7 +1,7 @@
 use Rattle.std.proofs.Common.{◌≡◌, ◌++◌, take}
-use Rattle.acpi_commands.specs.Text.{entry_lines}
-use Rattle.acpi_commands.specs.Written.{Leaves}
-use Rattle.acpi_commands.proofs.history_text.log.put_entries.Given as goal
+use Rattle.history_text.specs.Text.{entry_lines}
+use Rattle.history_text.specs.Written.{Leaves}
+use Rattle.history_text.proofs.log.put_entries.Given as goal
 
 -- The lines of the first entries are on their way.
 abbrev pub invariant-loop-i : goal.invariant-loop-i

@@ -1,8 +1,8 @@
 ghost use Rattle.std.specs.Prelude.{◌≡◌, ◌+◌, ◌≤◌, ℕ, [], ◌++◌, List, length, OnErr, OnOk};
 ghost use Rattle.acpi_io.specs.Faults.{RoseByOne};
 ghost use Rattle.acpi_io.specs.Sink.{WritesAll};
-ghost use Rattle.acpi_commands.specs.Written.{GoesOn};
-ghost use Rattle.acpi_commands.specs.declared.history_text.pieces.TheConstants.{PIECE_LEN};
+ghost use Rattle.history_text.specs.Written.{GoesOn};
+ghost use Rattle.history_text.specs.declared.pieces.TheConstants.{PIECE_LEN};
 
 use acpi_io::{Sink, WriteFault, write_all};
 use arrayvec::ArrayVec;
@@ -20,7 +20,7 @@ pub struct Pieces {
 
 impl Model for Pieces {
     ghost use Rattle.std.specs.Prelude.{List, ℕ, ◌<◌, length};
-    ghost use Rattle.acpi_commands.specs.declared.history_text.pieces.TheConstants.{PIECE_LEN};
+    ghost use Rattle.history_text.specs.declared.pieces.TheConstants.{PIECE_LEN};
 
     ghost Value = { List ℕ };
 

@@ -1,7 +1,7 @@
 use Rattle.std.proofs.Common.{◌∙◌}
 use Rattle.std.proofs.lemmas.Result.{err_from_is_err_and}
-use Rattle.acpi_commands.proofs.Writing.{part_put, part_failed}
-use Rattle.acpi_commands.proofs.history_text.pieces.Pieces.put.Goals as goal
+use Rattle.history_text.proofs.Writing.{part_put, part_failed}
+use Rattle.history_text.proofs.pieces.Pieces.put.Goals as goal
 
 pub returns-in_err-gather-clause-goes_on : goal.returns-in_err-gather-clause-goes_on
 returns-in_err-gather-clause-goes_on g c =

@@ -1,6 +1,6 @@
 use Rattle.std.proofs.Common.{◌≡◌, ℕ, ◌++◌, List, length}
-use Rattle.acpi_commands.specs.Written.{Leaves}
-use Rattle.acpi_commands.proofs.history_text.pieces.Pieces.put.Given as goal
+use Rattle.history_text.specs.Written.{Leaves}
+use Rattle.history_text.proofs.pieces.Pieces.put.Given as goal
 
 -- The text before the rest is on its way.
 abbrev pub invariant-loop-rest : goal.invariant-loop-rest

@@ -1,9 +1,9 @@
 use Rattle.std.proofs.Common.{List, ℕ, ◌++◌, length, ap, ◌∙◌, subst}
 use Rattle.std.proofs.lemmas.Result.{err_from_is_err_and}
 use Rattle.acpi_io.specs.Sink.{AddsFront, WritesAll}
-use Rattle.acpi_commands.specs.Text.{machine_line, entry_lines, rest_line, log_text}
-use Rattle.acpi_commands.proofs.Writing.{then_Leaves, then_fails, fails_before, Leaves-WritesAll}
-use Rattle.acpi_commands.proofs.history_text.log.write_log.Goals as goal
+use Rattle.history_text.specs.Text.{machine_line, entry_lines, rest_line, log_text}
+use Rattle.history_text.proofs.Writing.{then_Leaves, then_fails, fails_before, Leaves-WritesAll}
+use Rattle.history_text.proofs.log.write_log.Goals as goal
 
 pub returns-in_err-put_machine-clause-ends : goal.returns-in_err-put_machine-clause-ends
 returns-in_err-put_machine-clause-ends g c =

@@ -1,0 +1,2 @@
+mod Guesses
+pub mod Writing

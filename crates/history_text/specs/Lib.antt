@@ -1,0 +1,4 @@
+pub mod Guess
+pub mod Named
+pub mod Text
+pub mod Written
