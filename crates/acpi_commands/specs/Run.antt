@@ -6,7 +6,9 @@ use Rattle.acpi_io.specs.Sink.{AddsFront}
 use Rattle.acpi_io.specs.Source.{TakesExactly, TakesUpTo}
 use Rattle.acpi_regs.specs.declared.entry.Entry.{Entry}
 use Rattle.machine_desc.specs.Machine.{MachineData}
-use Rattle.machine_core.specs.Complete.{Complete, ReadsLast, ScriptsOnce}
+use Rattle.machine_history.specs.Complete.{Complete}
+use Rattle.machine_history.specs.Exclusion.{ReadsLast}
+use Rattle.machine_history.specs.Once.{ScriptsOnce}
 use Rattle.machine_reader.specs.declared.fault.ReaderFault.{ReaderFault}
 use Rattle.machine_reader.specs.declared.fault.ReaderFault.TheVariants as fault
 use Rattle.machine_reader.specs.Canonical.{canonical}

@@ -2,7 +2,7 @@ ghost use Rattle.std.specs.Prelude.{◌≡◌, ◌≤◌, List, Ok, OnErr, OnOk,
 ghost use Rattle.acpi_regs.specs.declared.entry.Entry.{Entry};
 ghost use Rattle.acpi_io.specs.Faults.{RoseByOne};
 ghost use Rattle.acpi_io.specs.Sink.{WritesAll};
-ghost use Rattle.machine_core.specs.Complete.{Complete};
+ghost use Rattle.machine_history.specs.Complete.{Complete};
 ghost use Rattle.machine_reader.specs.Description.{Describes};
 ghost use Rattle.acpi_commands.specs.Run.{FromBytes, Refuses, status_of, text};
 

@@ -13,3 +13,6 @@ mod wire;
 
 pub use board::Board;
 pub use machine_history::LogRule;
+
+#[cfg(test)]
+mod tests;

@@ -55,7 +55,8 @@ fn same_request(one: Request, other: Request) -> bool
     match (one, other) {
         (Request::Rd(x), Request::Rd(y)) => x == y,
         (Request::Wr(x, v), Request::Wr(y, w)) => x == y && v == w,
-        (Request::Be, Request::Be) | (Request::Bd, Request::Bd) | (Request::Qr, Request::Qr) => true,
+        (Request::Be, Request::Be) | (Request::Bd, Request::Bd) | (Request::Qr, Request::Qr) =>
+            true,
         _ => false,
     }
 }
@@ -65,7 +66,9 @@ fn same_effect(one: Effect, other: Effect) -> bool
 {
     match (one, other) {
         (Effect::Out(v), Effect::Out(w)) => v == w,
-        (Effect::Taken, Effect::Taken) | (Effect::Put, Effect::Put) | (Effect::Calm, Effect::Calm) => true,
+        (Effect::Taken, Effect::Taken)
+        | (Effect::Put, Effect::Put)
+        | (Effect::Calm, Effect::Calm) => true,
         _ => false,
     }
 }

@@ -103,7 +103,7 @@ waiting_begun g a request.Bd = refl
 waiting_begun g a request.Qr = refl
 
 -- the byte that a query puts out
-out_is : (m : MachineData) (past : List Entry) (v : ℕ) (o : Open) → o.asks ≡ request.Qr → is_ctl_move (effect.Out v) (next_in m past (Some o)) ≡ true → v ≡ unwrap_or o.out (first_code (codes past))
+pub out_is : (m : MachineData) (past : List Entry) (v : ℕ) (o : Open) → o.asks ≡ request.Qr → is_ctl_move (effect.Out v) (next_in m past (Some o)) ≡ true → v ≡ unwrap_or o.out (first_code (codes past))
 out_is m past v o qr is =
     let next = ctl_is (effect.Out v) (next_in m past (Some o)) is in
     let at = subst (λ r. slice_get (wire r (blank m past o)) o.made ≡ Some (move.Ctl next.0)) qr next.1 in

@@ -1,6 +1,5 @@
 -- Each claim consumes an entry that set the status of its event since the claim before it.
-use Rattle.std.proofs.Common.{ℕ, zero, suc, ◌+◌, ◌<◌, ◌≤◌, ◌≡◌, ◌⊎◌, inl, inr, Bool, true, false, cond, ◌&&◌, List, [], ◌∷◌, ◌++◌, length, reverse, take, Option, Some, None, slice_get, unwrap_or, if◌then◌else◌, refl, sym, ap, ◌∙◌, subst, arith}
-use Rattle.std.proofs.lemmas.Bool.{cases_Bool}
+use Rattle.std.proofs.Common.{ℕ, zero, suc, ◌<◌, ◌≡◌, ◌⊎◌, inl, inr, Bool, true, false, List, [], ◌∷◌, ◌++◌, length, reverse, take, Option, Some, None, slice_get, unwrap_or, refl, sym, ap, ◌∙◌, subst, arith}
 use Rattle.std.proofs.lemmas.List.{length_push, length-take-le, reverse-reverse, take-take}
 use Rattle.std.proofs.lemmas.Option.{slice_get_within}
 use Rattle.acpi_regs.specs.declared.actor.Actor.{Actor}
@@ -8,23 +7,21 @@ use Rattle.acpi_regs.specs.declared.entry.Deed.{Deed}
 use Rattle.acpi_regs.specs.declared.entry.Deed.TheVariants as deed
 use Rattle.acpi_regs.specs.declared.entry.Entry.{Entry}
 use Rattle.acpi_regs.specs.declared.event.Event.{Event}
-use Rattle.acpi_regs.specs.Event.{same_event}
 use Rattle.acpi_regs.specs.History.{past_of}
 use Rattle.event_chip.specs.declared.state.EventState.{EventState}
 use Rattle.event_chip.specs.declared.state.Touch.{Touch}
 use Rattle.event_chip.specs.declared.state.Touch.TheVariants as touch
 use Rattle.event_chip.specs.State.{is_level, is_listed}
 use Rattle.machine_desc.specs.Machine.{MachineData}
-use Rattle.machine_history.specs.Events.{held, latches, line, pending, slot, status, touched}
-use Rattle.machine_history.specs.Last.{SetsAt, done_to, held_by, held_set, status_by, status_set}
-use Rattle.machine_history.specs.Legal.{Allowed, EachAllowed, Legal, LegalPast}
-use Rattle.machine_history.specs.Machine.{kind_of, pulses_of}
-use Rattle.machine_history.specs.Sentences.{ClaimsConsume, ConsumesRaise, LatchesFromPulses}
+use Rattle.machine_history.specs.Events.{held, line, pending, slot, status, touched}
+use Rattle.machine_history.specs.Last.{SetsAt, done_to, held_by, status_by, status_set}
+use Rattle.machine_history.specs.Legal.{Allowed, Legal}
+use Rattle.machine_history.specs.Machine.{kind_of}
+use Rattle.machine_history.specs.Sentences.{ClaimsConsume, LatchesFromPulses}
 use Rattle.machine_history.proofs.Claims.{claimable, few_latches, latches-total, level_listed, starts_fresh}
 use Rattle.machine_history.proofs.Known.{hold, same_event-self}
 use Rattle.machine_history.proofs.LastEntries.{at_push, at_seam, held_step, status_step}
 use Rattle.machine_history.proofs.Places.{legal-each, reverse-cons, slice_get-push}
-use Rattle.machine_history.proofs.Queries.{slot_kind}
 
 -- an entry set the status, and behind it stands no claim
 abbrev SetSince : MachineData → Event → List Entry → Type 0
@@ -70,20 +67,28 @@ claims : (m : MachineData) (past : List Entry) (n : Event) (e : Entry) → e.dee
 claims m past n e is = subst (λ d. done_to n (touched m past (record { actor = e.actor; deed = d })) ≡ Some touch.Claim) (sym is) (rw (same_event-self n) refl)
 
 grown : (m : MachineData) (n : Event) (past : List Entry) (e : Entry) → (done_to n (touched m past e) ≡ Some touch.Claim → ⊥) → SetSince m n (reverse past) → SetSince m n (reverse past ++ e ∷ [])
-grown m n past e other before =
-    (before.0, (let less = before.1 in let long = length_push (reverse past) e in omega arith), at_push (status_set m n) past e before.0 true before.2, λ k x behind at is.
+grown m n past e other before = (
+  before.0,
+  (let less = before.1 in let long = length_push (reverse past) e in omega arith),
+  at_push (status_set m n) past e before.0 true before.2,
+  λ k x behind at is.
       elim (slice_get-push (reverse past) e k x at) [
         | inl left ↦ before.3 k x behind left.1 is
         | inr last ↦ other (claims m past n e (ap (λ (y : Entry). y.deed) last.1 ∙ is))
-      ])
+      ],
+)
 
 here : (m : MachineData) (n : Event) (past : List Entry) (e : Entry) → status_set m n past e ≡ Some true → SetSince m n (reverse past ++ e ∷ [])
-here m n past e sets =
-    (length (reverse past), (let long = length_push (reverse past) e in omega arith), at_seam (status_set m n) past e true sets, λ k x behind at is.
+here m n past e sets = (
+  length (reverse past),
+  (let long = length_push (reverse past) e in omega arith),
+  at_seam (status_set m n) past e true sets,
+  λ k x behind at is.
       elim (slice_get-push (reverse past) e k x at) [
         | inl left ↦ (let less : k < length (reverse past) = left.0 in omega arith)
         | inr last ↦ (let same : k ≡ length (reverse past) = last.0 in omega arith)
-      ])
+      ],
+)
 
 pub set_since : (m : MachineData) (n : Event) (past : List Entry) → Ready (is_level (kind_of m n)) (status m past n) (held m past n) → SetSince m n (reverse past)
 set_since m n [] ready = absurd (none ready.0)
@@ -93,7 +98,7 @@ set_since m n [] ready = absurd (none ready.0)
 set_since m n (e ∷ past) ready =
     subst (SetSince m n) (sym (reverse-cons e past))
     (elim (turns (is_level (kind_of m n)) (is_listed (kind_of m n)) (line m past n) (done_to n (touched m past e)) (status m past n) (held m past n) (level_listed (kind_of m n))
-      (sym (status_step m n past e) ∙ ready.0, λ level. sym (held_step m n past e) ∙ ready.1 level)) [
+    (sym (status_step m n past e) ∙ ready.0, λ level. sym (held_step m n past e) ∙ ready.1 level)) [
       | inl sets ↦ here m n past e sets
       | inr other ↦ grown m n past e other.0 (set_since m n past other.1)
     ])

@@ -1,5 +1,5 @@
 -- Jobs are started in order, each at most once, and finished no more often than started.
-use Rattle.std.proofs.Common.{ℕ, zero, suc, ◌+◌, ◌<◌, ◌≤◌, ◌≡◌, ◌==◌, ◌⊎◌, inl, inr, Bool, true, false, cond, nat_lt, List, [], ◌∷◌, ◌++◌, length, reverse, count_by, filter_map, Option, Some, None, is_none, slice_get, if◌then◌else◌, refl, sym, ap, ◌∙◌, subst, arith}
+use Rattle.std.proofs.Common.{ℕ, ◌+◌, ◌<◌, ◌≤◌, ◌≡◌, ◌==◌, ◌⊎◌, inl, inr, Bool, true, cond, nat_lt, List, [], ◌∷◌, ◌++◌, length, reverse, count_by, filter_map, Option, Some, None, slice_get, if◌then◌else◌, refl, sym, ap, ◌∙◌, subst, arith}
 use Rattle.std.proofs.lemmas.Bool.{cases_eq, cases_lt, eq-eqb, eqb-true, lt-ltb, le-ltb, ne_eqb}
 use Rattle.std.proofs.lemmas.List.{append-nil, length_push, reverse-reverse}
 use Rattle.std.proofs.lemmas.List.Elements.{filter_map-append}
@@ -8,19 +8,18 @@ use Rattle.acpi_regs.specs.declared.actor.Actor.{Actor}
 use Rattle.acpi_regs.specs.declared.entry.Deed.{Deed}
 use Rattle.acpi_regs.specs.declared.entry.Deed.TheVariants as deed
 use Rattle.acpi_regs.specs.declared.entry.Entry.{Entry}
-use Rattle.acpi_regs.specs.Actor.{same_actor}
 use Rattle.machine_desc.specs.Machine.{MachineData}
 use Rattle.machine_history.specs.Jobs.{jobs, running, running_after, starts, starts_after}
-use Rattle.machine_history.specs.Legal.{Allowed, Legal, LegalPast, is_firmware, is_worker, runs_scripts, same_number}
-use Rattle.machine_history.specs.Sentences.{JobsInOrder, is_finish_of, is_start_of, start_by, started_in, times_finished, times_started}
+use Rattle.machine_history.specs.Legal.{Allowed, Legal, LegalPast, is_worker, runs_scripts, same_number}
+use Rattle.machine_history.specs.Sentences.{JobsInOrder, is_finish_of, is_start_of, start_by, started_in}
 use Rattle.machine_history.proofs.Actors.{ByScripts}
 use Rattle.machine_history.proofs.JobCounts.{start_parts, started_is}
 use Rattle.machine_history.proofs.Keeping.{start_free}
-use Rattle.machine_history.proofs.Known.{hold, some-injective}
+use Rattle.machine_history.proofs.Known.{hold}
 use Rattle.machine_history.proofs.Locking.{by_actors}
 use Rattle.machine_history.proofs.Places.{reverse-cons, slice_get-push}
 use Rattle.machine_history.proofs.Stages.{by_own}
-use Rattle.machine_history.proofs.Totals.{Count, bounded, by_deed, one, one_small, own, total, when}
+use Rattle.machine_history.proofs.Totals.{bounded, by_deed, one, one_small, own, total, when}
 
 -- a count over a history, oldest first, is a total over its past
 count-total : (p : Deed → Bool) (past : List Entry) → count_by (λ (e : Entry). p e.deed) (reverse past) ≡ total (by_deed (λ d. one (p d))) past
@@ -84,10 +83,10 @@ once m j (e ∷ past) legal = at e.actor e.deed legal.0 (once m j past legal.1)
         let is : k ≡ starts past = (start_parts m past a k (hold m past a (deed.Start k) ok).1.1.0).0 in
         elim (cases_eq k j) [
           | inl same ↦ (
-            let here : one (k == j) ≡ 1 = ap one (eq-eqb k j same) in
-            let none : one (nat_lt j (starts past)) ≡ 0 = ap one (le-ltb j (starts past) (let s : k ≡ j = same in omega arith)) in
-            let now : one (nat_lt j (starts past + 1)) ≡ 1 = ap one (lt-ltb j (starts past + 1) (let s : k ≡ j = same in omega arith)) in
-            omega arith)
+              let here : one (k == j) ≡ 1 = ap one (eq-eqb k j same) in
+              let none : one (nat_lt j (starts past)) ≡ 0 = ap one (le-ltb j (starts past) (let s : k ≡ j = same in omega arith)) in
+              let now : one (nat_lt j (starts past + 1)) ≡ 1 = ap one (lt-ltb j (starts past + 1) (let s : k ≡ j = same in omega arith)) in
+              omega arith)
           | inr other ↦ (let here : one (k == j) ≡ 0 = ap one (ne_eqb k j other) in let more = later in omega arith)
         ]
     at a _ ok before = omega arith
@@ -118,8 +117,8 @@ unfolding runs
 finishes_of m j a past legal =
     bounded m (λ p. runs j (running p a)) (own a (by_deed (λ d. one (is_finish_of j d)))) (own a (by_deed (λ d. one (is_start_of j d)))) 0 (omega arith)
     (λ p e lp ok. by_own a e.actor (λ x. when x (one (is_finish_of j e.deed)) + runs j (if x then running_after e.deed (running p a) else running p a) ≤ when x (one (is_start_of j e.deed)) + runs j (running p a))
-      (λ same. finish_step m j p a e.deed (subst (λ x. Allowed m p (entry x e.deed)) (sym same) ok))
-      (λ other. omega arith))
+    (λ same. finish_step m j p a e.deed (subst (λ x. Allowed m p (entry x e.deed)) (sym same) ok))
+    (λ other. omega arith))
     past legal
 
 finish_by : (m : MachineData) (j : ℕ) → ByScripts m (by_deed (λ d. one (is_finish_of j d)))

@@ -49,11 +49,11 @@ pub some_asked : (x : Option Act) (d : Deed) → asked_by x d ≡ true → (y : 
 some_asked None d is = cc
 some_asked (Some y) d is = (y, refl, is)
 
-lock_plain : (d : Deed) → is_plain d ≡ true → asked act.Lock d ≡ true → ⊥
+pub lock_plain : (d : Deed) → is_plain d ≡ true → asked act.Lock d ≡ true → ⊥
 lock_plain deed.Seek plain is = cc
 lock_plain _ plain is = cc
 
-ask_plain : (r : Request) (d : Deed) → is_plain d ≡ true → asked (act.Ask r) d ≡ true → ⊥
+pub ask_plain : (r : Request) (d : Deed) → is_plain d ≡ true → asked (act.Ask r) d ≡ true → ⊥
 ask_plain r (deed.Begin s) plain is = cc
 ask_plain r _ plain is = cc
 

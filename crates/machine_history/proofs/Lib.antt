@@ -1,9 +1,12 @@
 pub mod Actors
+pub mod ActsOnce
 pub mod Adding
 pub mod Claims
+pub mod CodeOrder
 pub mod Codes
 pub mod Consuming
 pub mod Fitting
+pub mod Fronts
 pub mod JobCounts
 pub mod JobOrder
 pub mod Keeping
@@ -11,9 +14,11 @@ pub mod Known
 pub mod LastEntries
 pub mod Locking
 pub mod Machines
+pub mod Owning
 pub mod Parking
 pub mod Paying
 pub mod Places
+pub mod PlanFacts
 pub mod Prices
 pub mod Queries
 pub mod ScriptPrices

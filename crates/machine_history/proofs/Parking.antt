@@ -1,5 +1,5 @@
 -- A level event is parked exactly where its last sixteen finishes came with the line asserted.
-use Rattle.std.proofs.Common.{ℕ, zero, suc, ◌+◌, ◌<◌, ◌≤◌, ◌≡◌, Bool, true, false, cond, ◌&&◌, min, nat_le, List, [], ◌∷◌, ◌++◌, Option, Some, None, slice_get, if◌then◌else◌, refl, sym, ap, ◌∙◌, subst, arith}
+use Rattle.std.proofs.Common.{ℕ, zero, suc, ◌+◌, ◌<◌, ◌≤◌, ◌≡◌, Bool, true, false, min, nat_le, List, [], ◌∷◌, ◌++◌, Option, Some, None, slice_get, if◌then◌else◌, refl, sym, ap, ◌∙◌, arith}
 use Rattle.std.proofs.lemmas.Bool.{and_from, and_parts, leb-true, le-leb}
 use Rattle.acpi_regs.specs.declared.entry.Entry.{Entry}
 use Rattle.acpi_regs.specs.declared.event.Event.{Event}
@@ -12,10 +12,9 @@ use Rattle.event_chip.specs.Chip as chip
 use Rattle.event_chip.specs.State.{is_level}
 use Rattle.machine_desc.specs.Machine.{MachineData}
 use Rattle.machine_history.specs.declared.parts.Touched.{Touched}
-use Rattle.machine_history.specs.Events.{line, parked, slot, slot_after, touched}
+use Rattle.machine_history.specs.Events.{line, slot, slot_after, touched}
 use Rattle.machine_history.specs.Last.{done_to, where_true}
-use Rattle.machine_history.specs.Machine.{kind_of}
-use Rattle.machine_history.specs.Sentences.{LastSixteen, ParksAfterSixteen, mark_by, marks}
+use Rattle.machine_history.specs.Sentences.{ParksAfterSixteen, mark_by, marks}
 use Rattle.machine_history.proofs.Claims.{starts_fresh}
 use Rattle.machine_history.proofs.Queries.{slot_kind}
 
@@ -83,7 +82,7 @@ all-leading (true ∷ ms) (suc k) all = let rest = all-leading ms k (λ i below.
 pub parks : (m : MachineData) (n : Event) (past : List Entry) → ParksAfterSixteen m past n
 parks m n past = (
   λ is. (let p = and_parts (is_level (slot m past n).kind) (nat_le 16 (slot m past n).state.storm) is in
-    (ap is_level (sym (slot_kind m past n)) ∙ p.0, leading-all (marks m past n) 16 (let most = leb-true 16 (slot m past n).state.storm p.1 in let storm = storm-leading m n past in omega arith))),
+      (ap is_level (sym (slot_kind m past n)) ∙ p.0, leading-all (marks m past n) 16 (let most = leb-true 16 (slot m past n).state.storm p.1 in let storm = storm-leading m n past in omega arith))),
   λ both. and_from (is_level (slot m past n).kind) (nat_le 16 (slot m past n).state.storm) (ap is_level (slot_kind m past n) ∙ both.0)
-    (le-leb 16 (slot m past n).state.storm (let most = all-leading (marks m past n) 16 both.1 in let storm = storm-leading m n past in omega arith)),
+      (le-leb 16 (slot m past n).state.storm (let most = all-leading (marks m past n) 16 both.1 in let storm = storm-leading m n past in omega arith)),
 )

@@ -1,10 +1,11 @@
 -- A history by its places: legal exactly where each entry is allowed after those before it.
-use Rattle.std.proofs.Common.{ℕ, ◌<◌, ◌≤◌, ◌≡◌, ◌⊎◌, inl, inr, zero, suc, List, [], ◌∷◌, ◌++◌, length, reverse, take, Some, slice_get, arith, refl, sym, ap, ◌∙◌, subst}
+use Rattle.std.proofs.Common.{ℕ, ◌<◌, ◌≤◌, ◌≡◌, ◌⊎◌, inl, inr, zero, suc, List, [], ◌∷◌, ◌++◌, length, reverse, take, drop, Some, slice_get, arith, refl, sym, ap, ◌∙◌, subst}
 use Rattle.std.proofs.Math.Seq.{take-append_seam}
 use Rattle.std.proofs.lemmas.Grind.{reverse_onto}
-use Rattle.std.proofs.lemmas.List.{take-append-le, reverse-reverse}
+use Rattle.std.proofs.lemmas.List.{reverse-append, reverse-reverse, take-append-drop, take-append-le}
 use Rattle.std.proofs.lemmas.Option.{slice_get_within}
 use Rattle.acpi_regs.specs.declared.entry.Entry.{Entry}
+use Rattle.acpi_regs.specs.History.{past_of}
 use Rattle.machine_desc.specs.Machine.{MachineData}
 use Rattle.machine_history.specs.Legal.{Allowed, LegalPast, Legal}
 use Rattle.machine_history.specs.Legal.{EachAllowed}
@@ -64,3 +65,13 @@ legal-each m history legal = subst (EachAllowed m) (reverse-reverse history) (ea
 
 pub each-legal : (m : MachineData) (history : List Entry) → EachAllowed m history → Legal m history
 each-legal m history each = legal_from_each m (reverse history) (subst (EachAllowed m) (sym (reverse-reverse history)) each)
+
+-- what is legal was legal before its newest entries
+pub legal-tail : (m : MachineData) (newer past : List Entry) → LegalPast m (newer ++ past) → LegalPast m past
+legal-tail m [] past legal = legal
+legal-tail m (e ∷ newer) past legal = legal-tail m newer past legal.1
+
+-- the front of a legal history is legal
+pub legal-front : (m : MachineData) (history : List Entry) (i : ℕ) → Legal m history → LegalPast m (past_of history i)
+legal-front m history i legal =
+    legal-tail m (reverse (drop i history)) (past_of history i) (subst (LegalPast m) (ap reverse (sym (take-append-drop i history)) ∙ reverse-append (take i history) (drop i history)) legal)

@@ -2,10 +2,12 @@ pub mod Acts
 pub mod Cells
 pub mod Complete
 pub mod Events
+pub mod Exclusion
 pub mod Jobs
 pub mod Last
 pub mod Legal
 pub mod Machine
+pub mod Once
 pub mod Played
 pub mod Scripts
 pub mod Sentences

@@ -1,6 +1,5 @@
 -- The sentences that other definitions stand for: parked events, jobs in order, codes, the wire, and what a claim consumes.
-use Rattle.std.specs.Prelude.{ℕ, ◌+◌, ◌==◌, ◌<◌, ◌≤◌, ◌≡◌, ◌↔◌, Bool, true, false, List, [], ◌∷◌, ◌++◌, length, reverse, count_by, filter_map, Option, Some, None, slice_get}
-use Rattle.acpi_regs.specs.declared.actor.Actor.{Actor}
+use Rattle.std.specs.Prelude.{ℕ, ◌==◌, ◌<◌, ◌≤◌, ◌≡◌, ◌↔◌, Bool, true, false, List, [], ◌∷◌, ◌++◌, length, reverse, count_by, filter_map, Option, Some, None, slice_get}
 use Rattle.acpi_regs.specs.declared.entry.Deed.{Deed}
 use Rattle.acpi_regs.specs.declared.entry.Deed.TheVariants as deed
 use Rattle.acpi_regs.specs.declared.entry.Effect.TheVariants as effect
@@ -18,7 +17,7 @@ use Rattle.machine_history.specs.Events.{latches, line, parked, pending, touched
 use Rattle.machine_history.specs.Jobs.{jobs}
 use Rattle.machine_history.specs.Last.{SetsAt, done_to, status_set}
 use Rattle.machine_history.specs.Machine.{kind_of, pulses_of}
-use Rattle.machine_history.specs.Wire.{Open, codes, given, open_of}
+use Rattle.machine_history.specs.Wire.{Open, codes, given}
 
 -- ---- parked
 

@@ -1,6 +1,6 @@
 //! Laws over the definitions of this crate, each for every machine and history. A law is a function with nothing
 //! to do, whose contract says it; that of a comparison makes the comparison.
-ghost use Rattle.std.specs.Prelude.{◌≡◌, ◌↔◌, ◌≤◌, Bool, false, List, length, reverse, None, IsTrue};
+ghost use Rattle.std.specs.Prelude.{◌≡◌, ◌↔◌, ◌≤◌, Bool, false, List, length, reverse, Some, None, IsTrue};
 ghost use Rattle.acpi_regs.specs.declared.actor.Actor.{Actor};
 ghost use Rattle.acpi_regs.specs.declared.actor.Side.{Side};
 ghost use Rattle.acpi_regs.specs.declared.entry.Cell.{Cell};
@@ -17,12 +17,15 @@ ghost use Rattle.machine_history.specs.Acts.{fits};
 ghost use Rattle.machine_history.specs.Cells.{first_byte};
 ghost use Rattle.machine_history.specs.Complete.{Complete};
 ghost use Rattle.machine_history.specs.Events.{held, line, status};
+ghost use Rattle.machine_history.specs.Exclusion.{AccessesByOwner, DisownsBetween, ReadsLast};
 ghost use Rattle.machine_history.specs.Jobs.{running};
 ghost use Rattle.machine_history.specs.Last.{IsLast, burst_set, busy_set, disowned_set, due_set, gbl_set, held_set, line_set, owned_set, owner_set, running_set, seeker_set, status_set, told, value_set, wake_set};
 ghost use Rattle.machine_history.specs.Legal.{EachAllowed, Legal};
 ghost use Rattle.machine_history.specs.Scripts.{plan_left};
+ghost use Rattle.machine_history.specs.Once.{IsFirstLeft, JobsOnce, ScriptsOnce};
+ghost use Rattle.machine_history.specs.Sentences.{ClaimsConsume, CodesInOrder, FrontOfWire, JobsInOrder, LatchesFromPulses, ParksAfterSixteen};
 ghost use Rattle.machine_history.specs.Values.{value};
-ghost use Rattle.machine_history.specs.Wire.{burst, due};
+ghost use Rattle.machine_history.specs.Wire.{Open, burst, due, open_of};
 
 use crate::LogRule;
 
@@ -90,6 +93,65 @@ pub fn law_wire_last()
 /// description's.
 pub fn law_value_last()
     ensures { (m : MachineData) (c : Cell) (history : List Entry) → IsLast (value_set m c) (first_byte m c) history (value m (reverse history) c) }
+{}
+
+/// An event is parked exactly where it is level, its last sixteen finishes came with its line asserted, and no assert or drop of
+/// it stands among or after them.
+pub fn law_parked()
+    ensures { (m : MachineData) (n : Event) (history : List Entry) → ParksAfterSixteen m (reverse history) n }
+{}
+
+/// In a legal history no event has more latches than the device lists have pulses of it.
+pub fn law_latches()
+    ensures { (m : MachineData) (history : List Entry) → Legal m history → LatchesFromPulses m history }
+{}
+
+/// In a legal history each claim is of an event that has status and is enabled, and between it and the claim of that event
+/// before it stands an entry that set its status: a finish under an asserted line is such an entry.
+pub fn law_claims_consume()
+    ensures { (m : MachineData) (history : List Entry) → Legal m history → ClaimsConsume m history }
+{}
+
+/// In a legal history the k-th start is `start k`, of a job that was made. A job is started at most once, and finished no more
+/// often than it was started.
+pub fn law_jobs_in_order()
+    ensures { (m : MachineData) (history : List Entry) → Legal m history → JobsInOrder m history }
+{}
+
+/// In a legal history of a machine the codes that were pushed are those that were given, and behind them those that wait.
+pub fn law_codes_in_order()
+    ensures { (m : MachineData) (history : List Entry) → IsMachine m → Legal m history → CodesInOrder history }
+{}
+
+/// In a legal history, while a begin is open, the moves since it are a front of the moves of its request.
+pub fn law_wire_front()
+    ensures { (m : MachineData) (history : List Entry) (o : Open) → Legal m history → open_of (reverse history) ≡ Some o → FrontOfWire (reverse history) o }
+{}
+
+/// In a legal history the next act of an actor is the first act of what it began that its entries have not passed.
+pub fn law_next_act()
+    ensures { (m : MachineData) (history : List Entry) (a : Actor) → Legal m history → IsFirstLeft m (reverse history) a }
+{}
+
+/// In a complete history each firmware script made its acts, each once and in its order. In a legal history so did each job
+/// that was finished.
+pub fn law_scripts_once()
+    ensures firmware { (m : MachineData) (history : List Entry) → Complete m history → ScriptsOnce m history }
+    ensures jobs { (m : MachineData) (history : List Entry) → Legal m history → JobsOnce m history }
+{}
+
+/// In a legal history each read gives the last byte that was written to its cell, or the description's, also where the
+/// controller makes it.
+pub fn law_reads_last()
+    ensures { (m : MachineData) (history : List Entry) → Legal m history → ReadsLast m history }
+{}
+
+/// In a legal history of a machine each access is made for the next act of the actor to whom it is credited, also where the
+/// controller makes it, and where that act needs the Global Lock its actor owns it. Between an own and the next own the actor
+/// of the first disowns.
+pub fn law_exclusion()
+    ensures owner { (m : MachineData) (history : List Entry) → IsMachine m → Legal m history → AccessesByOwner m history }
+    ensures between { (m : MachineData) → DisownsBetween m }
 {}
 
 /// Conditions of the table of entries are equal, by `==`, exactly where they are the same.

@@ -107,8 +107,8 @@ impl Board {
         }
     }
 
-    /// Whether the machine lists the event.
-    pub(super) fn lists(&self, event: Event) -> bool
+    /// Whether the machine lists the event: it has a handler, and a count of references.
+    pub fn lists(&self, event: Event) -> bool
         ensures { result ≡ machines.lists self.now.machine event }
     {
         self.events.chip.slot(event).kind.is_listed()

@@ -1,5 +1,5 @@
 use Rattle.std.proofs.Common.{Some, ap, reverse, sym, ◌∙◌}
-use Rattle.machine_core.proofs.Next.{cell_read}
+use Rattle.acpi_commands.proofs.Simple.{cell_read}
 use Rattle.acpi_commands.proofs.play.entry_for.Goals as goal
 
 pub cell-requires : goal.cell-requires

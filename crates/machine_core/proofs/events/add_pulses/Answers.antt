@@ -11,7 +11,7 @@ loop-event-preserved c =
     record {
       counts = λ n is. pulse_step c.loop-event.counts c.args.pulses.now c.loop-event.event-index c.rank_of.result _ _ n within c.rank_of.ensures.value c.loop-event-test.true (c.loop-event.invariant.counts n is);
       most = λ k.
-        let one = rises c.loop-event.counts c.rank_of.result k within in
-        let before = c.loop-event.invariant.most k in
-        omega (arith, one, before);
+          let one = rises c.loop-event.counts c.rank_of.result k within in
+          let before = c.loop-event.invariant.most k in
+          omega (arith, one, before);
     }

@@ -58,17 +58,17 @@ invariant_of-self c =
     let makes : c.made-made.result ≡ made m past e = rw (← c.self.view_is) at c.made-made.ensures in
     let before : c.as_slice.result.now ≡ jobs m past = c.as_slice.ensures.value ∙ kept.jobs_are.made_are in
     let next = kept_after m b.journal.items e b.lock c.after-self-inside.result b.events c.touch.new.self b.actors c.go_on.new.self b.jobs c.add.new.self b.wire c.after.new.self b.cells c.make.new.self _ _ c.law_rules.ensures kept legal
-      c.after-self-inside.ensures
-      (events_step m past e.actor e.deed b.events c.touch.new.self kept.events_are c.touch.ensures.size
-        (λ n. subst (λ t. slot_of c.touch.new.self.chip n ≡ slot_after n t (slot_of b.events.chip n)) touches (c.touch.ensures.slots n))
-        c.touch.ensures.unlatched)
-      (actors_step m c.law_rules.ensures past e.actor e.deed b.actors c.go_on.new.self kept.actors_are (newest_allowed m b.journal.items e legal) c.go_on.ensures.size
-        (λ below. subst (λ w. Moves m w e.deed (state_of b.actors.states e.actor) (state_of c.go_on.new.self.states e.actor)) before (c.go_on.ensures.own below))
-        c.go_on.ensures.others c.go_on.ensures.outside)
-      (c.add.ensures.made ∙ ap (λ j. and_job b.jobs.made.items j) makes)
-      c.add.ensures.starts
-      c.after.ensures
-      (cells_step m past e.actor e.deed b.cells c.make.new.self kept.cells_are
-        (λ x within. subst (λ a. byte_in c.make.new.self x ≡ value_after x a (byte_in b.cells x)) (c.access_of.ensures m) (c.make.ensures.values x within))
-        c.make.ensures.kept) in
+    c.after-self-inside.ensures
+    (events_step m past e.actor e.deed b.events c.touch.new.self kept.events_are c.touch.ensures.size
+    (λ n. subst (λ t. slot_of c.touch.new.self.chip n ≡ slot_after n t (slot_of b.events.chip n)) touches (c.touch.ensures.slots n))
+    c.touch.ensures.unlatched)
+    (actors_step m c.law_rules.ensures past e.actor e.deed b.actors c.go_on.new.self kept.actors_are (newest_allowed m b.journal.items e legal) c.go_on.ensures.size
+    (λ below. subst (λ w. Moves m w e.deed (state_of b.actors.states e.actor) (state_of c.go_on.new.self.states e.actor)) before (c.go_on.ensures.own below))
+    c.go_on.ensures.others c.go_on.ensures.outside)
+    (c.add.ensures.made ∙ ap (λ j. and_job b.jobs.made.items j) makes)
+    c.add.ensures.starts
+    c.after.ensures
+    (cells_step m past e.actor e.deed b.cells c.make.new.self kept.cells_are
+    (λ x within. subst (λ a. byte_in c.make.new.self x ≡ value_after x a (byte_in b.cells x)) (c.access_of.ensures m) (c.make.ensures.values x within))
+    c.make.ensures.kept) in
     kept_as m _ _ c.after-self-inside.result c.touch.new.self c.go_on.new.self c.add.new.self c.after.new.self c.make.new.self _ _ _ _ c.push_reserved.ensures.items c.push_reserved.ensures.capacity c.add.ensures.room next

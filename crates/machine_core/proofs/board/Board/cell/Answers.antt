@@ -11,7 +11,7 @@ returns-then-is_controllers c =
     let within : IsCell b.machine c.args.cell = rw (← c.self.view_is) at c.requires in
     let is : is_controllers (slice_get b.machine.regions c.args.cell.region) ≡ true = sym (rw (← c.self.view_is) at c.is_controllers.ensures) ∙ c.if-is_controllers.true in
     rw (← c.self.view_is) (c.byte.ensures ∙ (c.self.invariant.wire_is.cells_are c.args.cell.offset (own_offset b.machine c.law_rules.ensures c.args.cell within is)
-      ∙ ap (value b.machine (reverse b.journal.items)) (own_cell b.machine c.law_rules.ensures c.args.cell is)))
+    ∙ ap (value b.machine (reverse b.journal.items)) (own_cell b.machine c.law_rules.ensures c.args.cell is)))
 
 pub returns-else-is_controllers : goal.returns-else-is_controllers
 returns-else-is_controllers c =

@@ -1,7 +1,5 @@
 use Rattle.std.proofs.Common.{ap, sym, ◌∙◌}
 use Rattle.machine_core.specs.Lock.{lock_after}
-
-
 use Rattle.machine_core.proofs.lock.LockState.after.Goals as goal
 
 pub returns-in-Claim : goal.returns-in-Claim

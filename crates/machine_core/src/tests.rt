@@ -1,0 +1,7 @@
+//! Boards of small machines, each driven entry by entry through whole histories, and what they refuse on the way.
+mod controller;
+mod events;
+mod lock;
+mod machines;
+mod memory;
+mod refusals;

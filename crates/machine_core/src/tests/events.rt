@@ -1,0 +1,143 @@
+//! Edge and level events, references, parking and pulses.
+use super::machines::{
+    PWR, RTC, SLP, board_of, f0, finish, follow, int, listed, listing, poll, runs, w0, with_pulses,
+    with_script,
+};
+use crate::Board;
+use acpi_regs::{Deed, Event};
+use handler_script::Op;
+use machine_desc::EventPart;
+use std::alloc::Global;
+use std::test::Fail;
+
+const EDGE: Event = Event::Gpe(3);
+
+const LEVEL: Event = Event::Gpe(2);
+
+#[test]
+fn a_raise_during_a_run_is_another_run(rt: HostRuntime) -> Result<(), Fail> {
+    let raises = [Op::Raise(EDGE), Op::Raise(EDGE)];
+    let handler = listed(rt.alloc(), EDGE, 1, &[Op::Notify(1, 128)])?;
+    let mut board = board_of(
+        rt.alloc(),
+        listing(with_script(rt.alloc(), &raises)?, handler)?,
+    )?;
+    follow(&mut board, &[f0(Deed::Raise(EDGE))])?;
+    assert_eq!(rt; board.pending(), Some(EDGE));
+    let entries = [
+        int(Deed::Claim(EDGE)),
+        w0(Deed::Start(0)),
+        f0(Deed::Raise(EDGE)),
+        w0(Deed::Notify(1, 128)),
+        w0(Deed::Finish(0)),
+        int(Deed::Claim(EDGE)),
+        w0(Deed::Start(1)),
+        w0(Deed::Notify(1, 128)),
+        w0(Deed::Finish(1)),
+    ];
+    finish(&mut board, &entries)?;
+    assert_eq!(rt; board.len(), 10);
+    assert_eq!(rt; board.waiting(), None);
+    Ok(())
+}
+
+/// A level event with this handler, on a machine whose firmware asserts its line and does no more, or drops it after that.
+fn level_board(alloc: Global, handler: &[Op], firmware: &[Op]) -> Result<Board, Fail> {
+    let event = EventPart {
+        level: true,
+        ..listed(alloc, LEVEL, 1, handler)?
+    };
+    board_of(alloc, listing(with_script(alloc, firmware)?, event)?)
+}
+
+#[test]
+fn a_handler_that_drops_the_line_runs_once(rt: HostRuntime) -> Result<(), Fail> {
+    let mut board = level_board(rt.alloc(), &[Op::Drop(LEVEL)], &[Op::Assert(LEVEL)])?;
+    let entries = [
+        f0(Deed::Assert(LEVEL)),
+        int(Deed::Claim(LEVEL)),
+        w0(Deed::Start(0)),
+        w0(Deed::Drop(LEVEL)),
+        w0(Deed::Finish(0)),
+    ];
+    follow(&mut board, &entries)?;
+    assert!(rt; board.rest() && !board.parked(LEVEL));
+    Ok(())
+}
+
+#[test]
+fn sixteen_runs_under_an_asserted_line_park_the_event(rt: HostRuntime) -> Result<(), Fail> {
+    let mut board = level_board(rt.alloc(), &[], &[Op::Assert(LEVEL)])?;
+    follow(&mut board, &[f0(Deed::Assert(LEVEL))])?;
+    runs(&mut board, LEVEL, 0, 16)?;
+    assert!(rt; board.parked(LEVEL));
+    assert_eq!(rt; board.pending(), None);
+    assert!(rt; board.rest());
+    assert_eq!(rt; board.len(), 49);
+    Ok(())
+}
+
+#[test]
+fn a_drop_frees_a_parked_event(rt: HostRuntime) -> Result<(), Fail> {
+    let firmware = [Op::Assert(LEVEL), Op::Drop(LEVEL)];
+    let mut board = level_board(rt.alloc(), &[], &firmware)?;
+    follow(&mut board, &[f0(Deed::Assert(LEVEL))])?;
+    runs(&mut board, LEVEL, 0, 16)?;
+    follow(&mut board, &[f0(Deed::Drop(LEVEL))])?;
+    assert!(rt; !board.parked(LEVEL) && !board.rest());
+    assert_eq!(rt; board.pending(), Some(LEVEL));
+    runs(&mut board, LEVEL, 16, 1)?;
+    assert!(rt; board.rest());
+    assert_eq!(rt; board.len(), 53);
+    Ok(())
+}
+
+#[test]
+fn two_pulses_may_be_one_latch(rt: HostRuntime) -> Result<(), Fail> {
+    let handler = listed(rt.alloc(), EDGE, 1, &[])?;
+    let mut board = board_of(
+        rt.alloc(),
+        listing(with_pulses(rt.alloc(), &[EDGE, EDGE])?, handler)?,
+    )?;
+    follow(&mut board, &[int(Deed::Latch(EDGE))])?;
+    let entries = [
+        poll(Deed::Claim(EDGE)),
+        w0(Deed::Start(0)),
+        w0(Deed::Finish(0)),
+    ];
+    finish(&mut board, &entries)?;
+    assert_eq!(rt; board.len(), 4);
+    Ok(())
+}
+
+#[test]
+fn references_stop_at_0_and_at_255(rt: HostRuntime) -> Result<(), Fail> {
+    let handler = [Op::Down(SLP), Op::Up(RTC)];
+    let parts = with_script(rt.alloc(), &[Op::Raise(PWR)])?;
+    let parts = listing(parts, listed(rt.alloc(), PWR, 1, &handler)?)?;
+    let parts = listing(parts, listed(rt.alloc(), SLP, 0, &[])?)?;
+    let parts = listing(parts, listed(rt.alloc(), RTC, 255, &[])?)?;
+    let mut board = board_of(rt.alloc(), parts)?;
+    follow(&mut board, &[f0(Deed::Raise(PWR))])?;
+    let entries = [
+        int(Deed::Claim(PWR)),
+        w0(Deed::Start(0)),
+        w0(Deed::Down(SLP)),
+        w0(Deed::Up(RTC)),
+        w0(Deed::Finish(0)),
+    ];
+    finish(&mut board, &entries)?;
+    for (event, count) in [(PWR, 1), (SLP, 0), (RTC, 255)] {
+        assert_eq!(rt; count_of(&board, event), Some(count));
+    }
+    Ok(())
+}
+
+/// The references of a listed event.
+fn count_of(board: &Board, event: Event) -> Option<u8> {
+    if board.lists(event) {
+        Some(board.count(event))
+    } else {
+        None
+    }
+}

@@ -1,0 +1,237 @@
+-- What is true of each act of every script is true of each act that is left.
+use Rattle.std.proofs.Common.{ℕ, zero, suc, ◌<◌, ◌≡◌, ◌==◌, Bool, true, false, not, List, [], ◌∷◌, Option, Some, None, slice_get, unwrap_or, if◌then◌else◌, nat_eq, refl, sym, ap, ◌∙◌, subst, arith}
+use Rattle.std.proofs.lemmas.Bool.{ne_eqb}
+use Rattle.acpi_regs.specs.declared.actor.Actor.{Actor}
+use Rattle.acpi_regs.specs.declared.actor.Actor.TheVariants as actor
+use Rattle.acpi_regs.specs.declared.actor.Side.{Side}
+use Rattle.acpi_regs.specs.declared.actor.Side.TheVariants as side
+use Rattle.acpi_regs.specs.declared.entry.Deed.{Deed}
+use Rattle.acpi_regs.specs.declared.entry.Deed.TheVariants as deed
+use Rattle.acpi_regs.specs.declared.entry.Entry.{Entry}
+use Rattle.acpi_regs.specs.declared.entry.Request.TheVariants as request
+use Rattle.acpi_regs.specs.declared.event.Event.{Event}
+use Rattle.acpi_regs.specs.Actor.{same_actor}
+use Rattle.acpi_regs.specs.Event.{same_event}
+use Rattle.field_units.specs.declared.rules.RegionKind.{RegionKind}
+use Rattle.field_units.specs.declared.rules.RegionKind.TheVariants as kind
+use Rattle.field_units.specs.Field.{Field}
+use Rattle.handler_script.specs.declared.act.Act.{Act}
+use Rattle.handler_script.specs.declared.act.Act.TheVariants as act
+use Rattle.handler_script.specs.declared.op.Op.{Op}
+use Rattle.handler_script.specs.declared.op.Op.TheVariants as op
+use Rattle.handler_script.specs.Each.{Each, IsTrueOn, act_alone}
+use Rattle.handler_script.specs.Parts.{access_needs, read_in, write_in}
+use Rattle.handler_script.specs.Plan.{Plan, Do, End, next_act, plan, plan_after}
+use Rattle.handler_script.proofs.Each.{each}
+use Rattle.machine_desc.specs.declared.machine.ListedEvent.{ListedEvent}
+use Rattle.machine_desc.specs.declared.machine.Query.{Query}
+use Rattle.machine_desc.specs.Given.{HasCode}
+use Rattle.machine_desc.specs.Kept.{IsHandler, IsListed, IsMachine, IsQuery, queries_in}
+use Rattle.machine_desc.specs.Machine.{MachineData}
+use Rattle.machine_desc.proofs.EachItem.{each_all, Each as EachOf}
+use Rattle.machine_history.specs.declared.parts.Job.{Job}
+use Rattle.machine_history.specs.declared.parts.Job.TheVariants as job
+use Rattle.machine_history.specs.Jobs.{jobs}
+use Rattle.machine_history.specs.Machine.{code_script, event_script, query_in, script_in}
+use Rattle.machine_history.specs.Scripts.{answer_of, first_plan, job_plan, left_after, passes, plan_left, script_of}
+use Rattle.machine_history.proofs.Known.{some-injective}
+
+-- a property of plans that each passed act keeps, and that each plan has at its start, every plan that is left has
+pub plan_kept : (Q : Plan → Type 0) (m : MachineData) → Q End → ((p : Plan) (byte : ℕ) → Q p → Q (plan_after byte p)) → ((a : Actor) → Q (first_plan m a)) → ((j : Option Job) → Q (job_plan m j)) → (past : List Entry) (a : Actor) → Q (plan_left m past a)
+plan_kept Q m end next firsts all [] a = firsts a
+plan_kept Q m end next firsts all (e ∷ past) a = at (same_actor a e.actor) (plan_kept Q m end next firsts all past a)
+  where
+    passed : (b : Bool) (byte : ℕ) (p : Plan) → Q p → Q (if b then plan_after byte p else p)
+    passed true byte p before = next p byte before
+    passed false byte p before = before
+
+    after : (d : Deed) (p : Plan) → Q p → Q (left_after m (jobs m past) d p)
+    after (deed.Start j) p before = all (slice_get (jobs m past) j)
+    after (deed.Finish j) p before = end
+    after deed.Own p before = passed (passes deed.Own) (answer_of deed.Own) p before
+    after deed.Disown p before = next p 0 before
+    after (deed.Read c v) p before = next p v before
+    after (deed.Write c v) p before = next p 0 before
+    after (deed.Take v) p before = next p (unwrap_or v 0) before
+    after (deed.Push q) p before = next p 0 before
+    after (deed.Raise n) p before = next p 0 before
+    after (deed.Assert n) p before = next p 0 before
+    after (deed.Drop n) p before = next p 0 before
+    after (deed.Notify x v) p before = next p 0 before
+    after (deed.Up n) p before = next p 0 before
+    after (deed.Down n) p before = next p 0 before
+    after _ p before = before
+
+    at : (b : Bool) → Q (plan_left m past a) → Q (if b then left_after m (jobs m past) e.deed (plan_left m past a) else plan_left m past a)
+    at true before = after e.deed (plan_left m past a) before
+    at false before = before
+
+-- what is true of each act of a plan, of its next one
+pub next_each : (P : Bool → Act → Bool) (p : Plan) (x : Act) → next_act p ≡ Some x → Each P p → (needs : Bool) × (P needs x ≡ true)
+next_each P End x next all = absurd (none next)
+  where
+    none : None ≡ Some x → ⊥
+    none is = cc
+next_each P (Do needs a more) x next all = (needs, ap (P needs) (sym (some-injective a x next)) ∙ all.0)
+
+pub after_each : (P : Bool → Act → Bool) (p : Plan) (byte : ℕ) → Each P p → Each P (plan_after byte p)
+after_each P End byte all = tt
+after_each P (Do needs a next) byte all = all.1 byte
+
+-- a property that looks neither at the lock's acts nor at accesses and burst mode is true on every field
+pub record IsFree (P : Bool → Act → Bool) : Type 0 where
+  pub lock : P false act.Lock ≡ true
+  pub unlock : P false act.Unlock ≡ true
+  pub be : P true (act.Ask request.Be) ≡ true
+  pub bd : P true (act.Ask request.Bd) ≡ true
+  pub reads : (needs : Bool) (of_kind : RegionKind) (field : Field) (k : ℕ) → P needs (read_in of_kind field k) ≡ true
+  pub writes : (needs : Bool) (of_kind : RegionKind) (field : Field) (k byte : ℕ) → P needs (write_in of_kind field k byte) ≡ true
+
+on_fields : (P : Bool → Act → Bool) → IsFree P → (field : Field) → IsTrueOn P field
+on_fields P free field = record {
+  lock = λ n. (free.lock, free.unlock);
+  burst = λ b. (free.be, free.bd);
+  read = λ held k below. free.reads (access_needs field held) field.kind field k;
+  write = λ held k byte below. free.writes (access_needs field held) field.kind field k byte;
+}
+
+script_each : (P : Bool → Act → Bool) → IsFree P → (fields : List Field) (ops : List Op) → ((i : ℕ) (o : Op) (a : Act) → slice_get ops i ≡ Some o → act_alone o ≡ Some a → P false a ≡ true) → Each P (plan fields ops)
+script_each P free fields ops alone = each P fields ops (λ f field at. on_fields P free field) alone
+
+-- ---- pushed codes are not 00
+
+abbrev pub is_coded : Bool → Act → Bool
+is_coded needs (act.Push q) = not (q == 0)
+is_coded needs _ = true
+
+coded_reads : (needs : Bool) (of_kind : RegionKind) (field : Field) (k : ℕ) → is_coded needs (read_in of_kind field k) ≡ true
+coded_reads needs kind.Memory field k = refl
+coded_reads needs kind.Controller field k = refl
+
+coded_writes : (needs : Bool) (of_kind : RegionKind) (field : Field) (k byte : ℕ) → is_coded needs (write_in of_kind field k byte) ≡ true
+coded_writes needs kind.Memory field k byte = refl
+coded_writes needs kind.Controller field k byte = refl
+
+coded_free : IsFree is_coded
+coded_free = record { lock = refl; unlock = refl; be = refl; bd = refl; reads = coded_reads; writes = coded_writes }
+
+coded_alone : (o : Op) (a : Act) → HasCode o → act_alone o ≡ Some a → is_coded false a ≡ true
+coded_alone (op.Push q) a code is =
+    let some : not (q == 0) ≡ true = ap not (ne_eqb q 0 (λ same. (let less : 0 < q = code in omega arith))) in
+    subst (λ x. is_coded false x ≡ true) (some-injective (act.Push q) a is) some
+coded_alone (op.Read f) a code is = cc
+coded_alone (op.Write f v) a code is = cc
+coded_alone (op.Add f v) a code is = cc
+coded_alone (op.Skip v k) a code is = cc
+coded_alone op.Hold a code is = subst (λ x. is_coded false x ≡ true) (some-injective _ a is) refl
+coded_alone op.Free a code is = subst (λ x. is_coded false x ≡ true) (some-injective _ a is) refl
+coded_alone (op.Notify d v) a code is = subst (λ x. is_coded false x ≡ true) (some-injective _ a is) refl
+coded_alone (op.Drop e) a code is = subst (λ x. is_coded false x ≡ true) (some-injective _ a is) refl
+coded_alone (op.Up e) a code is = subst (λ x. is_coded false x ≡ true) (some-injective _ a is) refl
+coded_alone (op.Down e) a code is = subst (λ x. is_coded false x ≡ true) (some-injective _ a is) refl
+coded_alone (op.Raise e) a code is = subst (λ x. is_coded false x ≡ true) (some-injective _ a is) refl
+coded_alone (op.Assert e) a code is = subst (λ x. is_coded false x ≡ true) (some-injective _ a is) refl
+
+handler_coded : (m : MachineData) (of_side : Side) (ops : List Op) → IsHandler m of_side ops → Each is_coded (plan m.fields ops)
+handler_coded m of_side ops handler = script_each is_coded coded_free m.fields ops (λ i o a at is. coded_alone o a (each_all HasCode ops handler.codes i o at) is)
+
+event_coded : (m : MachineData) (n : Event) (ls : List ListedEvent) → EachOf (IsListed m) ls → Each is_coded (plan m.fields (script_in ls n))
+event_coded m n [] listed = tt
+event_coded m n (l ∷ ls) listed = at (same_event l.listed.event n) (event_coded m n ls (λ k x at. listed (suc k) x at))
+  where
+    at : (b : Bool) → Each is_coded (plan m.fields (script_in ls n)) → Each is_coded (plan m.fields (if b then l.script else script_in ls n))
+    at true rest = handler_coded m side.Os l.script (listed zero l refl).script
+    at false rest = rest
+
+query_coded : (m : MachineData) (q : ℕ) (queries : List Query) → EachOf (IsQuery m) queries → Each is_coded (plan m.fields (query_in queries q))
+query_coded m q [] kept = tt
+query_coded m q (h ∷ queries) kept = at (nat_eq h.code q) (query_coded m q queries (λ k x at. kept (suc k) x at))
+  where
+    at : (b : Bool) → Each is_coded (plan m.fields (query_in queries q)) → Each is_coded (plan m.fields (if b then h.script else query_in queries q))
+    at true rest = handler_coded m side.Os h.script (kept zero h refl).script
+    at false rest = rest
+
+found_coded : (m : MachineData) (found : Option (List Op)) → ((ops : List Op) → found ≡ Some ops → IsHandler m side.Firmware ops) → Each is_coded (plan m.fields (unwrap_or found []))
+found_coded m None kept = tt
+found_coded m (Some ops) kept = handler_coded m side.Firmware ops (kept ops refl)
+
+first_coded : (m : MachineData) → IsMachine m → (a : Actor) → Each is_coded (first_plan m a)
+first_coded m ok (actor.Firmware k) = found_coded m (slice_get m.firmware k) (λ ops is. each_all (IsHandler m side.Firmware) m.firmware ok.firmware k ops is)
+first_coded m ok _ = tt
+
+job_coded : (m : MachineData) → IsMachine m → (j : Option Job) → Each is_coded (job_plan m j)
+job_coded m ok None = tt
+job_coded m ok (Some (job.Event n)) = event_coded m n m.events (each_all (IsListed m) m.events ok.events)
+job_coded m ok (Some job.Query) = (refl, λ b. (refl, λ b. (refl, λ b. tt)))
+job_coded m ok (Some (job.Code q)) = query_coded m q (queries_in m) (each_all (IsQuery m) (queries_in m) ok.queries)
+
+pub left_coded : (m : MachineData) → IsMachine m → (past : List Entry) (a : Actor) → Each is_coded (plan_left m past a)
+left_coded m ok past a = plan_kept (Each is_coded) m tt (λ p byte all. after_each is_coded p byte all) (first_coded m ok) (job_coded m ok) past a
+
+-- ---- what a query answers goes nowhere
+
+abbrev pub is_query_act : Act → Bool
+is_query_act (act.Ask request.Qr) = true
+is_query_act _ = false
+
+-- behind each request for a code the plan does not depend on its answer
+abbrev pub Steady : Plan → Type 0
+Steady End = Unit {0}
+Steady (Do needs a next) = (is_query_act a ≡ true → (byte : ℕ) → next byte ≡ next 0) × ((byte : ℕ) → Steady (next byte))
+
+abbrev asks_none : Bool → Act → Bool
+asks_none needs a = not (is_query_act a)
+
+none_reads : (needs : Bool) (of_kind : RegionKind) (field : Field) (k : ℕ) → asks_none needs (read_in of_kind field k) ≡ true
+none_reads needs kind.Memory field k = refl
+none_reads needs kind.Controller field k = refl
+
+none_writes : (needs : Bool) (of_kind : RegionKind) (field : Field) (k byte : ℕ) → asks_none needs (write_in of_kind field k byte) ≡ true
+none_writes needs kind.Memory field k byte = refl
+none_writes needs kind.Controller field k byte = refl
+
+none_free : IsFree asks_none
+none_free = record { lock = refl; unlock = refl; be = refl; bd = refl; reads = none_reads; writes = none_writes }
+
+none_alone : (o : Op) (a : Act) → act_alone o ≡ Some a → asks_none false a ≡ true
+none_alone (op.Read f) a is = cc
+none_alone (op.Write f v) a is = cc
+none_alone (op.Add f v) a is = cc
+none_alone (op.Skip v k) a is = cc
+none_alone op.Hold a is = subst (λ x. asks_none false x ≡ true) (some-injective _ a is) refl
+none_alone op.Free a is = subst (λ x. asks_none false x ≡ true) (some-injective _ a is) refl
+none_alone (op.Notify d v) a is = subst (λ x. asks_none false x ≡ true) (some-injective _ a is) refl
+none_alone (op.Drop e) a is = subst (λ x. asks_none false x ≡ true) (some-injective _ a is) refl
+none_alone (op.Up e) a is = subst (λ x. asks_none false x ≡ true) (some-injective _ a is) refl
+none_alone (op.Down e) a is = subst (λ x. asks_none false x ≡ true) (some-injective _ a is) refl
+none_alone (op.Raise e) a is = subst (λ x. asks_none false x ≡ true) (some-injective _ a is) refl
+none_alone (op.Assert e) a is = subst (λ x. asks_none false x ≡ true) (some-injective _ a is) refl
+none_alone (op.Push q) a is = subst (λ x. asks_none false x ≡ true) (some-injective _ a is) refl
+
+each_steady : (p : Plan) → Each asks_none p → Steady p
+each_steady End all = tt
+each_steady (Do needs a next) all = ((λ asks byte. absurd (both (is_query_act a) asks all.0)), λ byte. each_steady (next byte) (all.1 byte))
+  where
+    both : (b : Bool) → b ≡ true → not b ≡ true → ⊥
+    both true is isnt = cc
+    both false is isnt = cc
+
+script_steady : (fields : List Field) (ops : List Op) → Steady (plan fields ops)
+script_steady fields ops = each_steady (plan fields ops) (script_each asks_none none_free fields ops (λ i o a at is. none_alone o a is))
+
+first_steady : (m : MachineData) (a : Actor) → Steady (first_plan m a)
+first_steady m (actor.Firmware k) = script_steady m.fields (script_of m k)
+first_steady m _ = tt
+
+job_steady : (m : MachineData) (j : Option Job) → Steady (job_plan m j)
+job_steady m None = tt
+job_steady m (Some (job.Event n)) = script_steady m.fields (event_script m n)
+job_steady m (Some job.Query) = ((λ asks byte. refl), λ b. ((λ asks byte. refl), λ b. ((λ asks byte. refl), λ b. tt)))
+job_steady m (Some (job.Code q)) = script_steady m.fields (code_script m q)
+
+after_steady : (p : Plan) (byte : ℕ) → Steady p → Steady (plan_after byte p)
+after_steady End byte steady = tt
+after_steady (Do needs a next) byte steady = steady.1 byte
+
+pub left_steady : (m : MachineData) (past : List Entry) (a : Actor) → Steady (plan_left m past a)
+left_steady m past a = plan_kept Steady m tt after_steady (first_steady m) (job_steady m) past a
