@@ -32,7 +32,7 @@ ReadsWhole left left' bytes = (length bytes ≤ limit) × Consumes left left' by
 
 -- the text of a machine and its history
 abbrev pub text : MachineData → List Entry → List ℕ
-text m history = log_text (canonical m) history
+text m history = log_text m (canonical m) history
 
 -- What a run stands for: the bytes describe the machine, and this is a complete history of it, in which each script made
 -- its acts once and in order and each read gave the last byte written.
