@@ -200,7 +200,7 @@ nobody_quit m past a quiet = rw (false_and (runs_scripts m a) (is_seeker past a)
 
 empty : {X : Type 0} (xs : List X) → (length xs == 0) ≡ true → xs ≡ []
 empty [] e = refl
-empty (x ∷ xs) e = let zero : length (x ∷ xs) ≡ 0 = eqb-true (length (x ∷ xs)) 0 e in absurd (omega arith)
+empty (x ∷ xs) e = let size : length (x ∷ xs) ≡ 0 = eqb-true (length (x ∷ xs)) 0 e in absurd (omega arith)
 
 no_controller : (o : Option ControllerDesc) → is_none o ≡ true → is_some o ≡ true → ⊥
 no_controller None none some = no some
@@ -226,7 +226,7 @@ no_ec m (actor.Device k) none is = no is
 no_ec m (actor.Firmware k) none is = no is
 
 none_below : {X : Type 0} (k n : ℕ) → n ≡ 0 → nat_lt k n ≡ true → X
-none_below k n zero is = absurd (let less = ltb-true k n is in omega arith)
+none_below k n none is = absurd (let less = ltb-true k n is in omega arith)
 
 -- only accesses to memory are allowed
 plain : (m : MachineData) → is_built m ≡ true → (past : List Entry) (a : Actor) (d : Deed) → Quiet m past → Allowed m past (entry a d) → is_plain d ≡ true
