@@ -312,8 +312,8 @@ legal_read m ok history k c legal below is =
     let past = reverse history in
     let d = deed.Read c (value m past c) in
     let allowed : Allowed m past (entry (actor.Firmware k) d) =
-      none_failing (conditions m past (actor.Firmware k) d)
-      (lt-ltb _ _ below, (may_go_on m past (actor.Firmware k) (quiet m ok past legal), (subst (λ o. asked_by o d ≡ true) (sym is) (same_cell-refl c), (eq-eqb (value m past c) (value m past c) refl, tt)))) in
+    none_failing (conditions m past (actor.Firmware k) d)
+    (lt-ltb _ _ below, (may_go_on m past (actor.Firmware k) (quiet m ok past legal), (subst (λ o. asked_by o d ≡ true) (sym is) (same_cell-refl c), (eq-eqb (value m past c) (value m past c) refl, tt)))) in
     subst (LegalPast m) (sym (reverse-append history (entry (actor.Firmware k) d ∷ []))) (allowed, legal)
 
 pub legal_write : (m : MachineData) → is_built m ≡ true → (history : List Entry) (k : ℕ) (c : Cell) (v : ℕ) → Legal m history → k < length m.firmware → next_of m (reverse history) (actor.Firmware k) ≡ Some (act.Write c v) → Legal m (history ++ entry (actor.Firmware k) (deed.Write c v) ∷ [])
@@ -321,8 +321,8 @@ legal_write m ok history k c v legal below is =
     let past = reverse history in
     let d = deed.Write c v in
     let allowed : Allowed m past (entry (actor.Firmware k) d) =
-      none_failing (conditions m past (actor.Firmware k) d)
-      (lt-ltb _ _ below, (may_go_on m past (actor.Firmware k) (quiet m ok past legal), (subst (λ o. asked_by o d ≡ true) (sym is) (and_from _ _ (same_cell-refl c) (eq-eqb v v refl)), tt))) in
+    none_failing (conditions m past (actor.Firmware k) d)
+    (lt-ltb _ _ below, (may_go_on m past (actor.Firmware k) (quiet m ok past legal), (subst (λ o. asked_by o d ≡ true) (sym is) (and_from _ _ (same_cell-refl c) (eq-eqb v v refl)), tt))) in
     subst (LegalPast m) (sym (reverse-append history (entry (actor.Firmware k) d ∷ []))) (allowed, legal)
 
 -- the cell that is read next

@@ -7,11 +7,11 @@ ghost use Rattle.machine_reader.specs.Description.{Describes};
 ghost use Rattle.acpi_commands.specs.Run.{FromBytes, Refuses, status_of, text};
 
 use crate::built::is_built;
-use history_text::write_log;
 use crate::play::play;
 use crate::prepared::Prepared;
 use crate::status::Status;
 use acpi_io::{Sink, WriteFault};
+use history_text::write_log;
 use machine_core::Board;
 use machine_reader::{ReaderFault, read_machine, write_machine};
 use std::alloc::Global;

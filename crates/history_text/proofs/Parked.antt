@@ -6,7 +6,7 @@ use Rattle.acpi_io.specs.Sink.{AddsFront}
 use Rattle.acpi_regs.specs.declared.event.Event.{Event}
 use Rattle.acpi_regs.specs.Core.{event_at, events_below, events_of, if_in}
 use Rattle.history_text.specs.Text.{stuck_line, stuck_lines}
-use Rattle.history_text.specs.Written.{GoesOn, Leaves}
+use Rattle.history_text.specs.Written.{Leaves}
 use Rattle.history_text.proofs.Writing.{Leaves-Leaves, Leaves-nothing, fails_before, then_fails}
 
 stuck_lines-append : (some others : List Event) → stuck_lines (some ++ others) ≡ stuck_lines some ++ stuck_lines others
@@ -30,6 +30,7 @@ front set k (suc n) within = by_same (k == suc n) refl (λ less. front set k n l
   where
     further : (rest : List Event) × (events_below set n ≡ events_below set k ++ rest) → (rest : List Event) × (events_below set (suc n) ≡ events_below set k ++ rest)
     further r = (r.0 ++ if_in set (event_at n), below_next set n ∙ (ap (λ l. l ++ if_in set (event_at n)) r.1 ∙ append_assoc (events_below set k) r.0 (if_in set (event_at n))))
+
     by_same : (b : Bool) → (k == suc n) ≡ b → (k ≤ n → (rest : List Event) × (events_below set n ≡ events_below set k ++ rest)) → (rest : List Event) × (events_below set (suc n) ≡ events_below set k ++ rest)
     by_same true is earlier = ([], ap (events_below set) (sym (eqb-true k (suc n) is)) ∙ sym (append-nil (events_below set k)))
     by_same false is earlier = let other = eqb-false k (suc n) is in further (earlier (omega (arith, other)))

@@ -1,4 +1,4 @@
-use Rattle.std.proofs.Common.{List, ℕ, ◌++◌, length, ap, ◌∙◌, reverse, subst}
+use Rattle.std.proofs.Common.{List, ℕ, ◌++◌, length, ap, ◌∙◌, subst}
 use Rattle.std.proofs.lemmas.Result.{err_from_is_err_and}
 use Rattle.acpi_io.specs.Sink.{AddsFront, WritesAll}
 use Rattle.history_text.specs.Text.{entry_lines, last_lines, log_text, machine_line, rest_line, stuck, stuck_lines}
