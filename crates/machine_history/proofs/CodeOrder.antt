@@ -1,6 +1,6 @@
 -- The codes that were pushed are those that were given, and behind them those that wait.
-use Rattle.std.proofs.Common.{ℕ, ◌+◌, ◌≤◌, ◌≡◌, ◌==◌, Bool, true, false, List, [], ◌∷◌, ◌++◌, drop, reverse, filter_map, Option, Some, None, slice_get, unwrap_or, if◌then◌else◌, refl, sym, ap, ◌∙◌, subst, append_assoc, arith}
-use Rattle.std.proofs.lemmas.Bool.{eqb-true, not-true}
+use Rattle.std.proofs.Common.{ℕ, ◌+◌, ◌<◌, ◌≤◌, ◌≡◌, ◌==◌, ◌&&◌, not, Bool, true, false, List, [], ◌∷◌, ◌++◌, drop, length, reverse, filter_map, Option, Some, None, is_some, is_none, slice_get, unwrap_or, if◌then◌else◌, refl, sym, ap, ◌∙◌, subst, append_assoc, arith}
+use Rattle.std.proofs.lemmas.Bool.{eqb-true, ltb-true, ne_eqb}
 use Rattle.std.proofs.lemmas.List.{append-nil, reverse-reverse}
 use Rattle.std.proofs.lemmas.List.Elements.{filter_map-append}
 use Rattle.acpi_regs.specs.declared.actor.Actor.{Actor}
@@ -8,21 +8,30 @@ use Rattle.acpi_regs.specs.declared.entry.Deed.{Deed}
 use Rattle.acpi_regs.specs.declared.entry.Deed.TheVariants as deed
 use Rattle.acpi_regs.specs.declared.entry.Effect.TheVariants as effect
 use Rattle.acpi_regs.specs.declared.entry.Entry.{Entry}
+use Rattle.acpi_regs.specs.declared.entry.Request.{Request}
+use Rattle.acpi_regs.specs.declared.entry.Request.TheVariants as request
+use Rattle.acpi_regs.specs.declared.event.Event.{Event}
 use Rattle.ec_chip.specs.Parts.{first_code}
 use Rattle.ec_driver.specs.declared.wire.Move.TheVariants as move
-use Rattle.ec_driver.specs.Wire.{wire}
+use Rattle.ec_driver.specs.Wire.{carried, wire}
 use Rattle.handler_script.specs.declared.act.Act.{Act}
 use Rattle.handler_script.specs.declared.act.Act.TheVariants as act
 use Rattle.machine_desc.specs.Kept.{IsMachine}
 use Rattle.machine_desc.specs.Machine.{MachineData}
-use Rattle.machine_history.specs.Legal.{Allowed, Legal, LegalPast, asked_by, is_ctl_move}
+use Rattle.machine_history.specs.Acts.{fits}
+use Rattle.machine_history.specs.declared.parts.Job.{Job}
+use Rattle.machine_history.specs.declared.parts.Job.TheVariants as job
+use Rattle.machine_history.specs.Jobs.{and_job, claimed_job, is_empty, jobs, made_by, taken_job}
+use Rattle.machine_history.specs.Legal.{Allowed, Legal, LegalPast, asked_by, is_ctl_move, is_taking, same_number}
+use Rattle.machine_history.specs.Machine.{is_own, lists}
 use Rattle.machine_history.specs.Scripts.{next_of, plan_left}
-use Rattle.machine_history.specs.Sentences.{CodesInOrder, push_by, pushed_in}
-use Rattle.machine_history.specs.Values.{blank, next_in}
-use Rattle.machine_history.specs.Wire.{Open, asks_code, code, codes, codes_after, given, gives, is_query, moved, open_after, open_of, put_out}
-use Rattle.machine_history.proofs.Codes.{out_is}
+use Rattle.machine_history.specs.Sentences.{CodesInOrder, RunsAsGiven, code_of, codes_of, out_in, push_by, pushed_in}
+use Rattle.machine_history.specs.Values.{answer, blank, next_in, taking_in}
+use Rattle.machine_history.specs.Wire.{Open, asks_code, begun, code, codes, codes_after, given, gives, is_query, moved, open_after, open_of, put_out}
+use Rattle.machine_history.proofs.Codes.{Filled, filled, out_is}
 use Rattle.machine_history.proofs.Known.{hold}
-use Rattle.machine_history.proofs.PlanFacts.{is_coded, left_coded, next_each}
+use Rattle.machine_history.proofs.Fitting.{left_fits}
+use Rattle.machine_history.proofs.PlanFacts.{next_each}
 use Rattle.machine_history.proofs.Places.{reverse-cons}
 use Rattle.machine_history.proofs.Queries.{is_qr_request, qr_move}
 use Rattle.machine_history.proofs.Wires.{ctl_is}
@@ -95,8 +104,9 @@ pushes_some m ok past a q allowed = at (next_of m past a) refl (hold m past a (d
     at : (x : Option Act) → next_of m past a ≡ x → asked_by x (deed.Push q) ≡ true → (q == 0) ≡ false
     at None none is = cc
     at (Some x) next is =
-        let true_of = next_each is_coded (plan_left m past a) x next (left_coded m ok past a) in
-        not-true (q == 0) (ap (is_coded true_of.0) (sym (same x is)) ∙ true_of.1)
+        let fitting = next_each (fits m) (plan_left m past a) x next (left_fits m ok past a) in
+        let some : 0 < q = ltb-true 0 q (ap (fits m fitting.0) (sym (same x is)) ∙ fitting.1) in
+        ne_eqb q 0 (λ zero_code. omega arith)
 
 zero_if : (b : Bool) (queue : List ℕ) → NoZero queue → NoZero (if b then drop 1 queue else queue)
 zero_if true queue before = zero-drop queue before
@@ -154,3 +164,118 @@ same_codes m ok (e ∷ past) legal = pushed-push past e ∙ step m ok past e.act
 
 pub codes_in_order : (m : MachineData) (history : List Entry) → IsMachine m → Legal m history → CodesInOrder history
 codes_in_order m history ok legal = ap pushed_in (sym (reverse-reverse history)) ∙ same_codes m ok (reverse history) legal
+
+-- ---- runs of handlers, as given
+
+abbrev codes_at : MachineData → List Entry → List ℕ
+codes_at m past = codes_of (jobs m past)
+
+codes-push : (js : List Job) (j : Job) → codes_of (js ++ j ∷ []) ≡ codes_of js ++ code_of j
+codes-push [] j = append-nil (code_of j)
+codes-push (x ∷ js) j = ap (λ l. code_of x ++ l) (codes-push js j) ∙ sym (append_assoc (code_of x) (codes_of js) (code_of j))
+
+abbrev job_codes : Option Job → List ℕ
+job_codes None = []
+job_codes (Some j) = code_of j
+
+codes-grown : (js : List Job) (o : Option Job) → codes_of (and_job js o) ≡ codes_of js ++ job_codes o
+codes-grown js None = sym (append-nil (codes_of js))
+codes-grown js (Some j) = codes-push js j
+
+claim_codes : (m : MachineData) (queue : List ℕ) (n : Event) → job_codes (claimed_job m queue n) ≡ []
+claim_codes m queue n = at (lists m n) (is_own m n && not (is_empty queue))
+  where
+    at : (b c : Bool) → job_codes (if b then Some (job.Event n) else if c then Some job.Query else None) ≡ []
+    at true c = refl
+    at false true = refl
+    at false false = refl
+
+-- the take of a query makes the run of the code that is out, and every other take none
+run_of : (b : Bool) (q : ℕ) → (q == 0) ≡ b → job_codes (if not b then Some (job.Code q) else None) ≡ (if b then [] else q ∷ [])
+run_of true q is = refl
+run_of false q is = refl
+
+taken_if : (asks : Bool) (v : Option ℕ) (o : Option Open) → asks_code o ≡ asks → asks ≡ false → job_codes (taken_job o v) ≡ []
+taken_if asks None o is not_asked = refl
+taken_if asks (Some q) o is not_asked = rw (is ∙ not_asked) refl
+
+take_all : (b : Bool) (w v : Option ℕ) → is_taking v (if b then Some w else None) ≡ true → (b ≡ true) × (same_number v w ≡ true)
+take_all true w v is = (refl, is)
+take_all false w v is = cc
+
+take_given : (v out : Option ℕ) (first : ℕ) (oo : Option Open) → asks_code oo ≡ true → is_some out ≡ true → same_number v (Some (unwrap_or out first)) ≡ true → job_codes (taken_job oo v) ≡ code (unwrap_or out 0)
+take_given v None first oo asks some same = cc
+take_given None (Some w) first oo asks some same = cc
+take_given (Some q) (Some w) first oo asks some same = rw (asks, eqb-true q w same) (run_of (w == 0) w refl)
+
+take_out : (m : MachineData) (past : List Entry) (v : Option ℕ) (oo : Option Open) → Filled oo → is_taking v (taking_in m past oo) ≡ true → job_codes (taken_job oo v) ≡ out_in oo
+take_out m past v None full is = cc
+take_out m past v (Some o) full is = at (is_query o.asks) refl
+  where
+    at : (b : Bool) → is_query o.asks ≡ b → job_codes (taken_job (Some o) v) ≡ (if b then code (unwrap_or o.out 0) else [])
+    at true asks =
+        let qr = is_qr_request o.asks asks in
+        let all = take_all (o.made == 3) (Some (blank m past o)) v (subst (λ r. is_taking v (if o.made == length (wire r 0) then Some (carried r (blank m past o)) else None) ≡ true) qr is) in
+        let made : o.made ≡ 3 = eqb-true o.made 3 all.0 in
+        take_given v o.out (answer m past o.asks) (Some o) asks (full asks (omega arith)) all.1
+    at false other = taken_if false v (Some o) other refl
+
+moved_out : (oo : Option Open) → out_in (moved oo) ≡ out_in oo
+moved_out None = refl
+moved_out (Some o) = refl
+
+begun_out : (a : Actor) (r : Request) → out_in (Some (begun a r)) ≡ []
+begun_out a (request.Rd x) = refl
+begun_out a (request.Wr x v) = refl
+begun_out a request.Be = refl
+begun_out a request.Bd = refl
+begun_out a request.Qr = refl
+
+none_out : (oo : Option Open) → is_none oo ≡ true → out_in oo ≡ []
+none_out None none = refl
+none_out (Some o) none = cc
+
+-- an Out of a query puts its code out, where none was out
+put_codes : (m : MachineData) (past : List Entry) (v : ℕ) (oo : Option Open) → Unput oo → is_ctl_move (effect.Out v) (next_in m past oo) ≡ true → (out_in oo ++ (if asks_code oo then code v else []) ≡ out_in (put_out v oo))
+put_codes m past v None before is = refl
+put_codes m past v (Some o) before is = at (is_query o.asks) refl
+  where
+    at : (b : Bool) → is_query o.asks ≡ b → (if b then code (unwrap_or o.out 0) else []) ++ (if b then code v else []) ≡ (if b then code v else [])
+    at true asks = let none = before asks (let place = out_place m past v o asks is in omega arith) in rw none refl
+    at false other = refl
+
+abbrev Runs : List ℕ → List ℕ → List ℕ → Type 0
+Runs gave ran out = gave ≡ ran ++ out
+
+runs_same : (gave ran out later : List ℕ) → later ≡ out → Runs gave ran out → Runs (gave ++ []) ran later
+runs_same gave ran out later same before = append-nil gave ∙ (before ∙ ap (λ l. ran ++ l) (sym same))
+
+runs_step : (m : MachineData) (past : List Entry) (a : Actor) (d : Deed) → LegalPast m past → Allowed m past (entry a d) → Runs (given past) (codes_at m past) (out_in (open_of past))
+    → Runs (given past ++ gives (open_of past) d) (codes_of (and_job (jobs m past) (made_by m (open_of past) (codes past) d))) (out_in (open_after a d (open_of past)))
+runs_step m past a (deed.Begin r) legal ok before =
+    runs_same (given past) (codes_at m past) (out_in (open_of past)) (out_in (Some (begun a r))) (begun_out a r ∙ sym (none_out (open_of past) (hold m past a (deed.Begin r) ok).1.1.1.0)) before
+runs_step m past a (deed.Step h) legal ok before = runs_same (given past) (codes_at m past) (out_in (open_of past)) (out_in (moved (open_of past))) (moved_out (open_of past)) before
+runs_step m past a (deed.Ctl effect.Taken) legal ok before = runs_same (given past) (codes_at m past) (out_in (open_of past)) (out_in (moved (open_of past))) (moved_out (open_of past)) before
+runs_step m past a (deed.Ctl effect.Put) legal ok before = runs_same (given past) (codes_at m past) (out_in (open_of past)) (out_in (moved (open_of past))) (moved_out (open_of past)) before
+runs_step m past a (deed.Ctl effect.Calm) legal ok before = runs_same (given past) (codes_at m past) (out_in (open_of past)) (out_in (open_of past)) refl before
+runs_step m past a (deed.Ctl (effect.Out v)) legal ok before =
+    ap (λ l. l ++ gives (open_of past) (deed.Ctl (effect.Out v))) before
+    ∙ (append_assoc (codes_at m past) (out_in (open_of past)) (gives (open_of past) (deed.Ctl (effect.Out v)))
+    ∙ ap (λ l. codes_at m past ++ l) (put_codes m past v (open_of past) (unput m past legal) (hold m past a (deed.Ctl (effect.Out v)) ok).1.1.1.0))
+runs_step m past a (deed.Take v) legal ok before =
+    append-nil (given past)
+    ∙ (before
+    ∙ (ap (λ l. codes_at m past ++ l) (sym (take_out m past v (open_of past) (filled m past legal) (hold m past a (deed.Take v) ok).1.1.1.1.0))
+    ∙ (sym (codes-grown (jobs m past) (taken_job (open_of past) v)) ∙ sym (append-nil (codes_of (and_job (jobs m past) (taken_job (open_of past) v)))))))
+runs_step m past a (deed.Claim n) legal ok before =
+    append-nil (given past)
+    ∙ (before
+    ∙ ap (λ l. l ++ out_in (open_of past)) (sym (codes-grown (jobs m past) (claimed_job m (codes past) n) ∙ (ap (λ l. codes_at m past ++ l) (claim_codes m (codes past) n) ∙ append-nil (codes_at m past)))))
+runs_step m past a _ legal ok before = runs_same (given past) (codes_at m past) (out_in (open_of past)) (out_in (open_of past)) refl before
+
+runs_of_past : (m : MachineData) (past : List Entry) → LegalPast m past → RunsAsGiven m past
+runs_of_past m [] legal = refl
+runs_of_past m (e ∷ past) legal = runs_step m past e.actor e.deed legal.1 legal.0 (runs_of_past m past legal.1)
+
+pub runs_as_given : (m : MachineData) (history : List Entry) → Legal m history → RunsAsGiven m (reverse history)
+runs_as_given m history legal = runs_of_past m (reverse history) legal

@@ -1,6 +1,6 @@
 -- Every act that an actor has left is one that the machine's rules see to.
-use Rattle.std.proofs.Common.{ℕ, zero, suc, ◌+◌, ◌-◌, ◌*◌, ◌/◌, ◌<◌, ◌≤◌, ◌≡◌, arith, ◌||◌, ◌&&◌, ◌==◌, if◌then◌else◌, not, Bool, true, false, cond, nat_lt, All, List, [], ◌∷◌, length, slice_get, unwrap_or, Option, Some, None, refl, sym, ◌∙◌, ap, subst}
-use Rattle.std.proofs.lemmas.Bool.{lt-ltb, ltb-false, ltb-true}
+use Rattle.std.proofs.Common.{ℕ, suc, ◌+◌, ◌-◌, ◌*◌, ◌/◌, ◌<◌, ◌≤◌, ◌≡◌, arith, ◌||◌, ◌==◌, if◌then◌else◌, not, Bool, true, false, cond, nat_lt, List, [], ◌∷◌, length, slice_get, unwrap_or, Option, Some, None, refl, sym, ◌∙◌, ap, subst}
+use Rattle.std.proofs.lemmas.Bool.{lt-ltb, ltb-false}
 use Rattle.acpi_regs.specs.declared.actor.Actor.{Actor}
 use Rattle.acpi_regs.specs.declared.actor.Actor.TheVariants as actor
 use Rattle.acpi_regs.specs.declared.actor.Side.TheVariants as side
@@ -16,7 +16,6 @@ use Rattle.field_units.specs.declared.rules.RegionKind.TheVariants as kind
 use Rattle.field_units.specs.Bits.{byte_count, first_byte}
 use Rattle.field_units.specs.Field.{Field, RegionData, field_fault, is_controller}
 use Rattle.handler_script.specs.declared.act.Act.{Act}
-use Rattle.handler_script.specs.declared.act.Act.TheVariants as act
 use Rattle.handler_script.specs.declared.op.Op.{Op}
 use Rattle.handler_script.specs.declared.op.Op.TheVariants as op
 use Rattle.handler_script.specs.Each.{Each, IsTrueOn, act_alone}
@@ -31,7 +30,7 @@ use Rattle.machine_desc.specs.Machine.{MachineData}
 use Rattle.machine_desc.proofs.EachItem.{each_all}
 use Rattle.machine_history.specs.declared.parts.Job.{Job}
 use Rattle.machine_history.specs.declared.parts.Job.TheVariants as job
-use Rattle.machine_history.specs.Acts.{fits, is_memory, is_memory_cell}
+use Rattle.machine_history.specs.Acts.{fits, is_memory_cell}
 use Rattle.machine_history.specs.Jobs.{jobs}
 use Rattle.machine_history.specs.Machine.{code_script, event_script, query_in, script_in}
 use Rattle.machine_history.specs.Scripts.{answer_of, first_plan, job_plan, left_after, next_of, passes, plan_left, script_of}

@@ -36,10 +36,10 @@ use Rattle.machine_history.specs.declared.parts.Touched.{Touched}
 use Rattle.machine_history.specs.Cells.{first_byte}
 use Rattle.machine_history.specs.Events.{does, does_to, held, is_loud, line, slot, slot_after, status, touch_of, touched}
 use Rattle.machine_history.specs.Jobs.{event_ended, jobs, running, running_after}
-use Rattle.machine_history.specs.Last.{IsLast, SetsAt, burst_done, burst_open, burst_set, disowned_set, done_to, due_set, gbl_set, held_by, held_set, line_set, owned_set, busy_set, owner_set, running_set, seeker_set, status_by, status_set, told, value_set, wake_set, where_true, write_to}
+use Rattle.machine_history.specs.Last.{IsLast, SetsAt, burst_done, burst_open, burst_set, disowned_set, done_to, due_set, gbl_set, held_by, held_set, line_set, opener_in, opener_set, owned_set, busy_set, owner_set, running_set, seeker_set, status_by, status_set, told, value_set, wake_set, where_true, write_to}
 use Rattle.machine_history.specs.Machine.{is_own, names}
 use Rattle.machine_history.specs.Values.{access_of, same_cell, value, value_after}
-use Rattle.machine_history.specs.Wire.{Open, burst, burst_after, burst_in, codes, due, due_after, open_of}
+use Rattle.machine_history.specs.Wire.{Open, burst, burst_after, burst_in, codes, due, due_after, moved, open_after, open_of, put_out}
 use Rattle.machine_history.proofs.Claims.{starts_fresh}
 use Rattle.machine_history.proofs.Known.{some-injective}
 use Rattle.machine_history.proofs.Places.{reverse-cons, slice_get-append_left, slice_get-push, slice_get-seam}
@@ -236,6 +236,27 @@ due_step m (actor.Firmware k) d old = refl
 
 pub due_last : (m : MachineData) (history : List Entry) → IsLast (told (due_set m)) false history (due m (reverse history))
 due_last m history = last_entry (told (due_set m)) (due m) (λ past e. due_step m e.actor e.deed (due m past)) history
+
+same_opener : (oo : Option Open) → opener_in (moved oo) ≡ opener_in oo
+same_opener None = refl
+same_opener (Some o) = refl
+
+put_opener : (v : ℕ) (oo : Option Open) → opener_in (put_out v oo) ≡ opener_in oo
+put_opener v None = refl
+put_opener v (Some o) = refl
+
+opener_step : (a : Actor) (d : Deed) (oo : Option Open) → opener_in (open_after a d oo) ≡ unwrap_or (opener_set a d) (opener_in oo)
+opener_step a (deed.Begin r) oo = refl
+opener_step a (deed.Take v) oo = refl
+opener_step a (deed.Step h) oo = same_opener oo
+opener_step a (deed.Ctl effect.Taken) oo = same_opener oo
+opener_step a (deed.Ctl effect.Put) oo = same_opener oo
+opener_step a (deed.Ctl effect.Calm) oo = refl
+opener_step a (deed.Ctl (effect.Out v)) oo = put_opener v oo
+opener_step a _ oo = refl
+
+pub opener_last : (history : List Entry) → IsLast (told opener_set) None history (opener_in (open_of (reverse history)))
+opener_last history = last_entry (told opener_set) (λ past. opener_in (open_of past)) (λ past e. opener_step e.actor e.deed (open_of past)) history
 
 burst_asks : (r : Request) (e : Effect) (old : Bool) → burst_by r (move.Ctl e) old ≡ unwrap_or (burst_open (Some (record { by = actor.Int; asks = r; made = 0; out = None })) e) old
 burst_asks request.Be (effect.Out v) old = refl

@@ -1,17 +1,12 @@
 -- What is true of each act of every script is true of each act that is left.
-use Rattle.std.proofs.Common.{ℕ, zero, suc, ◌<◌, ◌≡◌, ◌==◌, Bool, true, false, not, List, [], ◌∷◌, Option, Some, None, slice_get, unwrap_or, if◌then◌else◌, nat_eq, refl, sym, ap, ◌∙◌, subst, arith}
-use Rattle.std.proofs.lemmas.Bool.{ne_eqb}
+use Rattle.std.proofs.Common.{ℕ, ◌≡◌, Bool, true, false, not, List, [], ◌∷◌, Option, Some, None, slice_get, unwrap_or, if◌then◌else◌, refl, sym, ap, ◌∙◌, subst}
 use Rattle.acpi_regs.specs.declared.actor.Actor.{Actor}
 use Rattle.acpi_regs.specs.declared.actor.Actor.TheVariants as actor
-use Rattle.acpi_regs.specs.declared.actor.Side.{Side}
-use Rattle.acpi_regs.specs.declared.actor.Side.TheVariants as side
 use Rattle.acpi_regs.specs.declared.entry.Deed.{Deed}
 use Rattle.acpi_regs.specs.declared.entry.Deed.TheVariants as deed
 use Rattle.acpi_regs.specs.declared.entry.Entry.{Entry}
 use Rattle.acpi_regs.specs.declared.entry.Request.TheVariants as request
-use Rattle.acpi_regs.specs.declared.event.Event.{Event}
 use Rattle.acpi_regs.specs.Actor.{same_actor}
-use Rattle.acpi_regs.specs.Event.{same_event}
 use Rattle.field_units.specs.declared.rules.RegionKind.{RegionKind}
 use Rattle.field_units.specs.declared.rules.RegionKind.TheVariants as kind
 use Rattle.field_units.specs.Field.{Field}
@@ -23,16 +18,11 @@ use Rattle.handler_script.specs.Each.{Each, IsTrueOn, act_alone}
 use Rattle.handler_script.specs.Parts.{access_needs, read_in, write_in}
 use Rattle.handler_script.specs.Plan.{Plan, Do, End, next_act, plan, plan_after}
 use Rattle.handler_script.proofs.Each.{each}
-use Rattle.machine_desc.specs.declared.machine.ListedEvent.{ListedEvent}
-use Rattle.machine_desc.specs.declared.machine.Query.{Query}
-use Rattle.machine_desc.specs.Given.{HasCode}
-use Rattle.machine_desc.specs.Kept.{IsHandler, IsListed, IsMachine, IsQuery, queries_in}
 use Rattle.machine_desc.specs.Machine.{MachineData}
-use Rattle.machine_desc.proofs.EachItem.{each_all, Each as EachOf}
 use Rattle.machine_history.specs.declared.parts.Job.{Job}
 use Rattle.machine_history.specs.declared.parts.Job.TheVariants as job
 use Rattle.machine_history.specs.Jobs.{jobs}
-use Rattle.machine_history.specs.Machine.{code_script, event_script, query_in, script_in}
+use Rattle.machine_history.specs.Machine.{code_script, event_script}
 use Rattle.machine_history.specs.Scripts.{answer_of, first_plan, job_plan, left_after, passes, plan_left, script_of}
 use Rattle.machine_history.proofs.Known.{some-injective}
 
@@ -97,76 +87,6 @@ on_fields P free field = record {
 
 script_each : (P : Bool → Act → Bool) → IsFree P → (fields : List Field) (ops : List Op) → ((i : ℕ) (o : Op) (a : Act) → slice_get ops i ≡ Some o → act_alone o ≡ Some a → P false a ≡ true) → Each P (plan fields ops)
 script_each P free fields ops alone = each P fields ops (λ f field at. on_fields P free field) alone
-
--- ---- pushed codes are not 00
-
-abbrev pub is_coded : Bool → Act → Bool
-is_coded needs (act.Push q) = not (q == 0)
-is_coded needs _ = true
-
-coded_reads : (needs : Bool) (of_kind : RegionKind) (field : Field) (k : ℕ) → is_coded needs (read_in of_kind field k) ≡ true
-coded_reads needs kind.Memory field k = refl
-coded_reads needs kind.Controller field k = refl
-
-coded_writes : (needs : Bool) (of_kind : RegionKind) (field : Field) (k byte : ℕ) → is_coded needs (write_in of_kind field k byte) ≡ true
-coded_writes needs kind.Memory field k byte = refl
-coded_writes needs kind.Controller field k byte = refl
-
-coded_free : IsFree is_coded
-coded_free = record { lock = refl; unlock = refl; be = refl; bd = refl; reads = coded_reads; writes = coded_writes }
-
-coded_alone : (o : Op) (a : Act) → HasCode o → act_alone o ≡ Some a → is_coded false a ≡ true
-coded_alone (op.Push q) a code is =
-    let some : not (q == 0) ≡ true = ap not (ne_eqb q 0 (λ same. (let less : 0 < q = code in omega arith))) in
-    subst (λ x. is_coded false x ≡ true) (some-injective (act.Push q) a is) some
-coded_alone (op.Read f) a code is = cc
-coded_alone (op.Write f v) a code is = cc
-coded_alone (op.Add f v) a code is = cc
-coded_alone (op.Skip v k) a code is = cc
-coded_alone op.Hold a code is = subst (λ x. is_coded false x ≡ true) (some-injective _ a is) refl
-coded_alone op.Free a code is = subst (λ x. is_coded false x ≡ true) (some-injective _ a is) refl
-coded_alone (op.Notify d v) a code is = subst (λ x. is_coded false x ≡ true) (some-injective _ a is) refl
-coded_alone (op.Drop e) a code is = subst (λ x. is_coded false x ≡ true) (some-injective _ a is) refl
-coded_alone (op.Up e) a code is = subst (λ x. is_coded false x ≡ true) (some-injective _ a is) refl
-coded_alone (op.Down e) a code is = subst (λ x. is_coded false x ≡ true) (some-injective _ a is) refl
-coded_alone (op.Raise e) a code is = subst (λ x. is_coded false x ≡ true) (some-injective _ a is) refl
-coded_alone (op.Assert e) a code is = subst (λ x. is_coded false x ≡ true) (some-injective _ a is) refl
-
-handler_coded : (m : MachineData) (of_side : Side) (ops : List Op) → IsHandler m of_side ops → Each is_coded (plan m.fields ops)
-handler_coded m of_side ops handler = script_each is_coded coded_free m.fields ops (λ i o a at is. coded_alone o a (each_all HasCode ops handler.codes i o at) is)
-
-event_coded : (m : MachineData) (n : Event) (ls : List ListedEvent) → EachOf (IsListed m) ls → Each is_coded (plan m.fields (script_in ls n))
-event_coded m n [] listed = tt
-event_coded m n (l ∷ ls) listed = at (same_event l.listed.event n) (event_coded m n ls (λ k x at. listed (suc k) x at))
-  where
-    at : (b : Bool) → Each is_coded (plan m.fields (script_in ls n)) → Each is_coded (plan m.fields (if b then l.script else script_in ls n))
-    at true rest = handler_coded m side.Os l.script (listed zero l refl).script
-    at false rest = rest
-
-query_coded : (m : MachineData) (q : ℕ) (queries : List Query) → EachOf (IsQuery m) queries → Each is_coded (plan m.fields (query_in queries q))
-query_coded m q [] kept = tt
-query_coded m q (h ∷ queries) kept = at (nat_eq h.code q) (query_coded m q queries (λ k x at. kept (suc k) x at))
-  where
-    at : (b : Bool) → Each is_coded (plan m.fields (query_in queries q)) → Each is_coded (plan m.fields (if b then h.script else query_in queries q))
-    at true rest = handler_coded m side.Os h.script (kept zero h refl).script
-    at false rest = rest
-
-found_coded : (m : MachineData) (found : Option (List Op)) → ((ops : List Op) → found ≡ Some ops → IsHandler m side.Firmware ops) → Each is_coded (plan m.fields (unwrap_or found []))
-found_coded m None kept = tt
-found_coded m (Some ops) kept = handler_coded m side.Firmware ops (kept ops refl)
-
-first_coded : (m : MachineData) → IsMachine m → (a : Actor) → Each is_coded (first_plan m a)
-first_coded m ok (actor.Firmware k) = found_coded m (slice_get m.firmware k) (λ ops is. each_all (IsHandler m side.Firmware) m.firmware ok.firmware k ops is)
-first_coded m ok _ = tt
-
-job_coded : (m : MachineData) → IsMachine m → (j : Option Job) → Each is_coded (job_plan m j)
-job_coded m ok None = tt
-job_coded m ok (Some (job.Event n)) = event_coded m n m.events (each_all (IsListed m) m.events ok.events)
-job_coded m ok (Some job.Query) = (refl, λ b. (refl, λ b. (refl, λ b. tt)))
-job_coded m ok (Some (job.Code q)) = query_coded m q (queries_in m) (each_all (IsQuery m) (queries_in m) ok.queries)
-
-pub left_coded : (m : MachineData) → IsMachine m → (past : List Entry) (a : Actor) → Each is_coded (plan_left m past a)
-left_coded m ok past a = plan_kept (Each is_coded) m tt (λ p byte all. after_each is_coded p byte all) (first_coded m ok) (job_coded m ok) past a
 
 -- ---- what a query answers goes nowhere
 

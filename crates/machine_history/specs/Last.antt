@@ -154,6 +154,17 @@ running_set a b _ = None
 
 -- ---- the controller
 
+-- who began the open transaction, and what was asked
+abbrev pub opener_in : Option Open → Option (Actor × Request)
+opener_in None = None
+opener_in (Some o) = Some (o.by, o.asks)
+
+-- a begin, or a take
+abbrev pub opener_set : Actor → Deed → Option (Option (Actor × Request))
+opener_set a (deed.Begin r) = Some (Some (a, r))
+opener_set a (deed.Take v) = Some None
+opener_set a _ = None
+
 -- an Out of burst enable, a Taken of burst disable, and a Calm
 abbrev pub burst_asked : Request → Effect → Option Bool
 burst_asked request.Be (effect.Out v) = Some true

@@ -1,10 +1,9 @@
 -- The history that a machine plays: its schedule, a step a name, and then rounds until nobody has anything left to do.
-use Rattle.std.specs.Prelude.{ℕ, zero, suc, ◌≡◌, List, [], ◌∷◌, Option, None, unwrap_or}
+use Rattle.std.specs.Prelude.{ℕ, zero, suc, ◌≡◌, List, [], ◌∷◌, None, unwrap_or}
 use Rattle.acpi_regs.specs.declared.actor.Actor.{Actor}
 use Rattle.acpi_regs.specs.declared.entry.Entry.{Entry}
 use Rattle.acpi_regs.specs.Core.{Core, first_core}
 use Rattle.machine_desc.specs.Actors.{actors_of}
-use Rattle.machine_desc.specs.Kept.{counts_in}
 use Rattle.machine_desc.specs.Machine.{MachineData}
 use Rattle.machine_history.specs.Steps.{gives}
 

@@ -1,5 +1,5 @@
 -- The sentences that other definitions stand for: parked events, jobs in order, codes, the wire, and what a claim consumes.
-use Rattle.std.specs.Prelude.{ℕ, ◌==◌, ◌<◌, ◌≤◌, ◌≡◌, ◌↔◌, Bool, true, false, List, [], ◌∷◌, ◌++◌, length, reverse, count_by, filter_map, Option, Some, None, slice_get}
+use Rattle.std.specs.Prelude.{ℕ, ◌==◌, ◌<◌, ◌≤◌, ◌≡◌, ◌↔◌, Bool, true, false, List, [], ◌∷◌, ◌++◌, length, reverse, count_by, filter_map, flat_map, unwrap_or, Option, Some, None, slice_get, if◌then◌else◌}
 use Rattle.acpi_regs.specs.declared.entry.Deed.{Deed}
 use Rattle.acpi_regs.specs.declared.entry.Deed.TheVariants as deed
 use Rattle.acpi_regs.specs.declared.entry.Effect.TheVariants as effect
@@ -13,11 +13,13 @@ use Rattle.event_chip.specs.declared.state.Touch.{Touch}
 use Rattle.event_chip.specs.declared.state.Touch.TheVariants as touch
 use Rattle.event_chip.specs.State.{is_level}
 use Rattle.machine_desc.specs.Machine.{MachineData}
+use Rattle.machine_history.specs.declared.parts.Job.{Job}
+use Rattle.machine_history.specs.declared.parts.Job.TheVariants as job
 use Rattle.machine_history.specs.Events.{latches, line, parked, pending, touched}
 use Rattle.machine_history.specs.Jobs.{jobs}
 use Rattle.machine_history.specs.Last.{SetsAt, done_to, status_set}
 use Rattle.machine_history.specs.Machine.{kind_of, pulses_of}
-use Rattle.machine_history.specs.Wire.{Open, codes, given}
+use Rattle.machine_history.specs.Wire.{Open, code, codes, given, is_query, open_of}
 
 -- ---- parked
 
@@ -73,6 +75,10 @@ pub record JobsInOrder (m : MachineData) (history : List Entry) : Type 0 where
   pub once : (j : ℕ) → times_started j history ≤ 1
   pub ended : (j : ℕ) → times_finished j history ≤ times_started j history
 
+-- each job that was made was started once and finished once
+abbrev pub JobsDone : MachineData → List Entry → Type 0
+JobsDone m history = (j : ℕ) → j < length (jobs m (reverse history)) → (times_started j history ≡ 1) × (times_finished j history ≡ 1)
+
 -- ---- latches
 
 -- no event has more latches than pulses
@@ -103,6 +109,23 @@ pushed_in history = filter_map (λ e. push_by e.deed) history
 -- they are the codes that were given, and behind them those that wait
 abbrev pub CodesInOrder : List Entry → Type 0
 CodesInOrder history = pushed_in history ≡ given (reverse history) ++ codes (reverse history)
+
+-- the codes of runs of query handlers, in order
+abbrev pub code_of : Job → List ℕ
+code_of (job.Code q) = q ∷ []
+code_of j = []
+
+abbrev pub codes_of : List Job → List ℕ
+codes_of js = flat_map code_of js
+
+-- the code that the open query put out and whose take is to come
+abbrev pub out_in : Option Open → List ℕ
+out_in None = []
+out_in (Some o) = if is_query o.asks then code (unwrap_or o.out 0) else []
+
+-- the k-th code that was given is that of the k-th run of a handler, but for the last, while its take is to come
+abbrev pub RunsAsGiven : MachineData → List Entry → Type 0
+RunsAsGiven m past = given past ≡ codes_of (jobs m past) ++ out_in (open_of past)
 
 -- ---- the wire
 

@@ -12,10 +12,9 @@ use Rattle.acpi_regs.specs.declared.entry.HostMove.{HostMove}
 use Rattle.acpi_regs.specs.declared.event.Event.{Event}
 use Rattle.acpi_regs.specs.declared.phase.LockPhase.{LockPhase}
 use Rattle.acpi_regs.specs.declared.phase.LockPhase.TheVariants as phase
-use Rattle.acpi_regs.specs.declared.phase.Pulse.{Pulse}
-use Rattle.acpi_regs.specs.Core.{Core, all_events, event_at, events_of, no_event}
+use Rattle.acpi_regs.specs.Core.{Core, events_of, no_event}
 use Rattle.acpi_regs.specs.Event.{same_event}
-use Rattle.acpi_regs.specs.Phases.{Free, Holding, Lock, Phase, Pulsed, allows, is_idle, moved, put}
+use Rattle.acpi_regs.specs.Phases.{Free, Lock, Phase, Pulsed, allows, is_idle, moved, put}
 use Rattle.ec_driver.specs.Driver.{effect_in, host_of}
 use Rattle.handler_script.specs.declared.act.Act.{Act}
 use Rattle.handler_script.specs.declared.act.Act.TheVariants as act

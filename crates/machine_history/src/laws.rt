@@ -7,7 +7,6 @@ ghost use Rattle.acpi_regs.specs.declared.entry.Cell.{Cell};
 ghost use Rattle.acpi_regs.specs.declared.entry.Entry.{Entry};
 ghost use Rattle.acpi_regs.specs.Event.{gbl};
 ghost use Rattle.acpi_regs.specs.Lock.{gbl_status, has_disowned, has_owned, is_busy, owner, seeker, wake};
-ghost use Rattle.acpi_regs.specs.declared.actor.Actor.{Actor};
 ghost use Rattle.acpi_regs.specs.declared.event.Event.{Event};
 ghost use Rattle.handler_script.specs.Each.{Each};
 ghost use Rattle.machine_desc.specs.Kept.{IsMachine};
@@ -19,11 +18,11 @@ ghost use Rattle.machine_history.specs.Complete.{Complete};
 ghost use Rattle.machine_history.specs.Events.{held, line, status};
 ghost use Rattle.machine_history.specs.Exclusion.{AccessesByOwner, DisownsBetween, ReadsLast};
 ghost use Rattle.machine_history.specs.Jobs.{running};
-ghost use Rattle.machine_history.specs.Last.{IsLast, burst_set, busy_set, disowned_set, due_set, gbl_set, held_set, line_set, owned_set, owner_set, running_set, seeker_set, status_set, told, value_set, wake_set};
+ghost use Rattle.machine_history.specs.Last.{IsLast, burst_set, busy_set, disowned_set, due_set, gbl_set, held_set, line_set, opener_in, opener_set, owned_set, owner_set, running_set, seeker_set, status_set, told, value_set, wake_set};
 ghost use Rattle.machine_history.specs.Legal.{EachAllowed, Legal};
-ghost use Rattle.machine_history.specs.Scripts.{plan_left};
 ghost use Rattle.machine_history.specs.Once.{IsFirstLeft, JobsOnce, ScriptsOnce};
-ghost use Rattle.machine_history.specs.Sentences.{ClaimsConsume, CodesInOrder, FrontOfWire, JobsInOrder, LatchesFromPulses, ParksAfterSixteen};
+ghost use Rattle.machine_history.specs.Scripts.{plan_left};
+ghost use Rattle.machine_history.specs.Sentences.{ClaimsConsume, CodesInOrder, FrontOfWire, JobsDone, JobsInOrder, LatchesFromPulses, ParksAfterSixteen, RunsAsGiven};
 ghost use Rattle.machine_history.specs.Values.{value};
 ghost use Rattle.machine_history.specs.Wire.{Open, burst, due, open_of};
 
@@ -82,9 +81,10 @@ pub fn law_running_last()
     ensures { (a : Actor) (history : List Entry) → IsLast (told (running_set a)) None history (running (reverse history) a) }
 {}
 
-/// Burst mode is on where the last Out of burst enable, Taken of burst disable or Calm is an Out of burst enable. It is the
+/// A transaction is open where the last begin or take is a begin, by its actor and for its request. Burst mode is on where the last Out of burst enable, Taken of burst disable or Calm is an Out of burst enable. It is the
 /// interrupt handler's turn where the last of its claims of the controller's event and its steps is a claim.
 pub fn law_wire_last()
+    ensures opener { (history : List Entry) → IsLast (told opener_set) None history (opener_in (open_of (reverse history))) }
     ensures burst { (history : List Entry) → IsLast burst_set false history (burst (reverse history)) }
     ensures due { (m : MachineData) (history : List Entry) → IsLast (told (due_set m)) false history (due m (reverse history)) }
 {}
@@ -113,14 +113,18 @@ pub fn law_claims_consume()
 {}
 
 /// In a legal history the k-th start is `start k`, of a job that was made. A job is started at most once, and finished no more
-/// often than it was started.
+/// often than it was started. In a complete history each job that was made was started and finished once.
 pub fn law_jobs_in_order()
-    ensures { (m : MachineData) (history : List Entry) → Legal m history → JobsInOrder m history }
+    ensures legal { (m : MachineData) (history : List Entry) → Legal m history → JobsInOrder m history }
+    ensures complete { (m : MachineData) (history : List Entry) → Complete m history → JobsDone m history }
 {}
 
-/// In a legal history of a machine the codes that were pushed are those that were given, and behind them those that wait.
+/// In a legal history of a machine the codes that were pushed are those that were given, and behind them those that wait. In
+/// every legal history the k-th code that was given is that of the k-th run of a handler, but for the one that an open query
+/// has put out.
 pub fn law_codes_in_order()
-    ensures { (m : MachineData) (history : List Entry) → IsMachine m → Legal m history → CodesInOrder history }
+    ensures pushed { (m : MachineData) (history : List Entry) → IsMachine m → Legal m history → CodesInOrder history }
+    ensures runs { (m : MachineData) (history : List Entry) → Legal m history → RunsAsGiven m (reverse history) }
 {}
 
 /// In a legal history, while a begin is open, the moves since it are a front of the moves of its request.

@@ -1,5 +1,8 @@
-use Rattle.machine_history.proofs.LastEntries.{burst_last, due_last}
+use Rattle.machine_history.proofs.LastEntries.{burst_last, due_last, opener_last}
 use Rattle.machine_history.proofs.laws.law_wire_last.Goals as goal
+
+pub returns-clause-opener : goal.returns-clause-opener
+returns-clause-opener c = opener_last
 
 pub returns-clause-burst : goal.returns-clause-burst
 returns-clause-burst c = burst_last
