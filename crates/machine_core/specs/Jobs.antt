@@ -13,6 +13,3 @@ pub record IsJobs (m : MachineData) (past : List Entry) (kept : Jobs) : Type 0 w
 -- the number of the next job to start, where one waits
 abbrev pub next_start : List Job → ℕ → Option ℕ
 next_start made started = if nat_lt started (length made) then Some started else None
-
-abbrev pub waiting : MachineData → List Entry → Option ℕ
-waiting m past = next_start (jobs m past) (starts past)

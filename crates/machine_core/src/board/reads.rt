@@ -11,10 +11,9 @@ ghost use Rattle.machine_history.specs.Values as values;
 ghost use Rattle.machine_history.specs.Wire as wire;
 ghost use Rattle.machine_core.specs.Board.{IsFirstPending, IsFree, opener_of};
 ghost use Rattle.machine_core.specs.Cells.{is_controllers};
-ghost use Rattle.ec_driver.specs.Driver.{effect_in, host_of};
 ghost use Rattle.acpi_regs.specs.declared.actor.Actor.{Actor};
 ghost use Rattle.acpi_regs.specs.declared.event.Event.{Event};
-ghost use Rattle.machine_core.specs.Jobs.{waiting};
+ghost use Rattle.machine_history.specs.Steps.{ctl_move, host_move, waiting};
 
 use super::Board;
 use acpi_regs::{Actor, Cell, Effect, Event, HostMove, Side};
@@ -118,14 +117,14 @@ impl Board {
 
     /// The next move of the open transaction, where it is the host's (ACPI 6.5, section 12.3).
     pub fn host_move(&self) -> Option<HostMove>
-        ensures { result ≡ host_of (values.next_move self.now.machine (reverse self.now.entries)) }
+        ensures { result ≡ host_move self.now.machine (reverse self.now.entries) }
     {
         self.wire.next_host()
     }
 
     /// The next move of the open transaction, where it is the controller's.
     pub fn ctl_move(&self) -> Option<Effect>
-        ensures { result ≡ effect_in (values.next_move self.now.machine (reverse self.now.entries)) }
+        ensures { result ≡ ctl_move self.now.machine (reverse self.now.entries) }
     {
         self.wire.next_effect()
     }
