@@ -1,9 +1,9 @@
 //! Transactions with the controller, and its query codes.
 use super::machines::{
-    OWN, PWR, begins, board_of, cell, ec, ends, f0, field, finish, follow, int, notifying, poll,
-    reading_space, w0, with_controller,
+    EC, F0, INT, OWN, POLL, PWR, Step, W0, begins, board_of, ends, field, finish, follow,
+    notifying, reading_space, with_controller,
 };
-use acpi_regs::{Actor, Deed, Effect, HostMove, Request};
+use acpi_regs::{Actor, Cell, Deed, Effect, HostMove, Request};
 use handler_script::Op;
 use machine_desc::Items;
 use std::test::Fail;
@@ -13,22 +13,25 @@ fn a_read_of_the_space_carries_its_byte(rt: HostRuntime) -> Result<(), Fail> {
     let parts = with_controller(rt.alloc(), true, false, &[Op::Raise(PWR)])?;
     let parts = reading_space(rt.alloc(), parts, 0x5A, field(0, 2040, 8, false))?;
     let mut board = board_of(rt.alloc(), parts)?;
-    follow(&mut board, &[f0(Deed::Raise(PWR)), int(Deed::Claim(PWR))])?;
+    follow(
+        &mut board,
+        &[(F0, Deed::Raise(PWR)), (INT, Deed::Claim(PWR))],
+    )?;
     follow(&mut board, &begins(0, Request::Rd(255)))?;
     assert_eq!(rt; board.requester(), Some(Actor::Worker(0)));
     assert_eq!(rt; board.host_move(), Some(HostMove::Sc(0x80)));
     assert_eq!(rt; board.ctl_move(), None);
-    follow(&mut board, &[poll(Deed::Step(HostMove::Sc(0x80)))])?;
+    follow(&mut board, &[(POLL, Deed::Step(HostMove::Sc(0x80)))])?;
     assert_eq!(rt; board.ctl_move(), Some(Effect::Taken));
     assert_eq!(rt; board.host_move(), None);
     let moves = [
-        ec(Deed::Ctl(Effect::Taken)),
-        poll(Deed::Step(HostMove::Data(0xFF))),
-        ec(Deed::Ctl(Effect::Out(0x5A))),
+        (EC, Deed::Ctl(Effect::Taken)),
+        (POLL, Deed::Step(HostMove::Data(0xFF))),
+        (EC, Deed::Ctl(Effect::Out(0x5A))),
     ];
     follow(&mut board, &moves)?;
     assert_eq!(rt; board.taking(), None);
-    follow(&mut board, &[poll(Deed::Step(HostMove::Get(0x5A)))])?;
+    follow(&mut board, &[(POLL, Deed::Step(HostMove::Get(0x5A)))])?;
     assert_eq!(rt; board.taking(), Some(Some(0x5A)));
     finish(&mut board, &ends(0, Some(0x5A)))?;
     assert_eq!(rt; board.requester(), None);
@@ -43,32 +46,35 @@ fn two_bytes_are_read_in_burst_mode_which_the_controller_may_leave(
     let parts = with_controller(rt.alloc(), true, true, &[Op::Raise(PWR)])?;
     let parts = reading_space(rt.alloc(), parts, 0, field(0, 0, 16, false))?;
     let mut board = board_of(rt.alloc(), parts)?;
-    follow(&mut board, &[f0(Deed::Raise(PWR)), int(Deed::Claim(PWR))])?;
+    follow(
+        &mut board,
+        &[(F0, Deed::Raise(PWR)), (INT, Deed::Claim(PWR))],
+    )?;
     follow(&mut board, &begins(0, Request::Be))?;
     let burst = [
-        poll(Deed::Step(HostMove::Sc(0x82))),
-        ec(Deed::Ctl(Effect::Out(0x90))),
-        poll(Deed::Step(HostMove::Get(0x90))),
-        w0(Deed::Take(Some(0x90))),
-        ec(Deed::Ctl(Effect::Calm)),
+        (POLL, Deed::Step(HostMove::Sc(0x82))),
+        (EC, Deed::Ctl(Effect::Out(0x90))),
+        (POLL, Deed::Step(HostMove::Get(0x90))),
+        (W0, Deed::Take(Some(0x90))),
+        (EC, Deed::Ctl(Effect::Calm)),
     ];
     follow(&mut board, &burst)?;
     for address in 0..2u8 {
         let read = [
-            w0(Deed::Begin(Request::Rd(address))),
-            poll(Deed::Step(HostMove::Sc(0x80))),
-            ec(Deed::Ctl(Effect::Taken)),
-            poll(Deed::Step(HostMove::Data(address))),
-            ec(Deed::Ctl(Effect::Out(0))),
-            poll(Deed::Step(HostMove::Get(0))),
-            w0(Deed::Take(Some(0))),
+            (W0, Deed::Begin(Request::Rd(address))),
+            (POLL, Deed::Step(HostMove::Sc(0x80))),
+            (EC, Deed::Ctl(Effect::Taken)),
+            (POLL, Deed::Step(HostMove::Data(address))),
+            (EC, Deed::Ctl(Effect::Out(0))),
+            (POLL, Deed::Step(HostMove::Get(0))),
+            (W0, Deed::Take(Some(0))),
         ];
         follow(&mut board, &read)?;
     }
     let disable = [
-        w0(Deed::Begin(Request::Bd)),
-        poll(Deed::Step(HostMove::Sc(0x83))),
-        ec(Deed::Ctl(Effect::Taken)),
+        (W0, Deed::Begin(Request::Bd)),
+        (POLL, Deed::Step(HostMove::Sc(0x83))),
+        (EC, Deed::Ctl(Effect::Taken)),
     ];
     follow(&mut board, &disable)?;
     finish(&mut board, &ends(0, None))?;
@@ -77,11 +83,11 @@ fn two_bytes_are_read_in_burst_mode_which_the_controller_may_leave(
 }
 
 /// What a query job asks, where the interrupt handler makes the first move.
-fn asked(code: u8) -> [acpi_regs::Entry; 3] {
+fn asked(code: u8) -> [Step; 3] {
     [
-        int(Deed::Step(HostMove::Sc(0x84))),
-        ec(Deed::Ctl(Effect::Out(code))),
-        poll(Deed::Step(HostMove::Get(code))),
+        (INT, Deed::Step(HostMove::Sc(0x84))),
+        (EC, Deed::Ctl(Effect::Out(code))),
+        (POLL, Deed::Step(HostMove::Get(code))),
     ]
 }
 
@@ -91,14 +97,17 @@ fn a_code_without_a_handler_has_an_empty_run(rt: HostRuntime) -> Result<(), Fail
         rt.alloc(),
         with_controller(rt.alloc(), true, false, &[Op::Push(0x2A)])?,
     )?;
-    follow(&mut board, &[f0(Deed::Push(0x2A)), int(Deed::Claim(OWN))])?;
+    follow(
+        &mut board,
+        &[(F0, Deed::Push(0x2A)), (INT, Deed::Claim(OWN))],
+    )?;
     assert!(rt; board.due());
     follow(&mut board, &begins(0, Request::Qr))?;
     follow(&mut board, &asked(0x2A))?;
     assert!(rt; !board.due());
     follow(&mut board, &ends(0, Some(0x2A)))?;
     assert_eq!(rt; board.waiting(), Some(1));
-    finish(&mut board, &[w0(Deed::Start(1)), w0(Deed::Finish(1))])?;
+    finish(&mut board, &[(W0, Deed::Start(1)), (W0, Deed::Finish(1))])?;
     assert_eq!(rt; board.len(), 15);
     Ok(())
 }
@@ -112,27 +121,27 @@ fn a_code_starts_one_run_and_none_for_00(rt: HostRuntime) -> Result<(), Fail> {
     }
     let mut board = board_of(rt.alloc(), parts)?;
     let claims = [
-        f0(Deed::Push(0x2A)),
-        int(Deed::Claim(OWN)),
-        f0(Deed::Raise(OWN)),
-        int(Deed::Claim(OWN)),
+        (F0, Deed::Push(0x2A)),
+        (INT, Deed::Claim(OWN)),
+        (F0, Deed::Raise(OWN)),
+        (INT, Deed::Claim(OWN)),
     ];
     follow(&mut board, &claims)?;
     for (job, code) in [(0, 0x2A), (1, 0)] {
         follow(&mut board, &begins(job, Request::Qr))?;
         let moves = [
-            int(Deed::Step(HostMove::Sc(0x84))),
-            ec(Deed::Ctl(Effect::Out(code))),
-            int(Deed::Claim(OWN)),
-            poll(Deed::Step(HostMove::Get(code))),
+            (INT, Deed::Step(HostMove::Sc(0x84))),
+            (EC, Deed::Ctl(Effect::Out(code))),
+            (INT, Deed::Claim(OWN)),
+            (POLL, Deed::Step(HostMove::Get(code))),
         ];
         follow(&mut board, &moves)?;
         follow(&mut board, &ends(job, Some(code)))?;
     }
     let run = [
-        w0(Deed::Start(2)),
-        w0(Deed::Notify(2, 128)),
-        w0(Deed::Finish(2)),
+        (W0, Deed::Start(2)),
+        (W0, Deed::Notify(2, 128)),
+        (W0, Deed::Finish(2)),
     ];
     finish(&mut board, &run)?;
     assert_eq!(rt; board.len(), 31);
@@ -151,19 +160,19 @@ fn codes_are_given_in_order(rt: HostRuntime) -> Result<(), Fail> {
     }
     let mut board = board_of(rt.alloc(), parts)?;
     let pushes = [
-        f0(Deed::Push(1)),
-        int(Deed::Claim(OWN)),
-        f0(Deed::Push(255)),
-        int(Deed::Claim(OWN)),
+        (F0, Deed::Push(1)),
+        (INT, Deed::Claim(OWN)),
+        (F0, Deed::Push(255)),
+        (INT, Deed::Claim(OWN)),
     ];
     follow(&mut board, &pushes)?;
     follow(&mut board, &begins(0, Request::Qr))?;
     // The controller gives a code and has another one: it raises its event, though it is silent.
     let first = [
-        int(Deed::Step(HostMove::Sc(0x84))),
-        ec(Deed::Ctl(Effect::Out(1))),
-        int(Deed::Claim(OWN)),
-        poll(Deed::Step(HostMove::Get(1))),
+        (INT, Deed::Step(HostMove::Sc(0x84))),
+        (EC, Deed::Ctl(Effect::Out(1))),
+        (INT, Deed::Claim(OWN)),
+        (POLL, Deed::Step(HostMove::Get(1))),
     ];
     follow(&mut board, &first)?;
     follow(&mut board, &ends(0, Some(1)))?;
@@ -173,19 +182,19 @@ fn codes_are_given_in_order(rt: HostRuntime) -> Result<(), Fail> {
     assert_eq!(rt; board.pending(), None);
     follow(&mut board, &begins(2, Request::Qr))?;
     let last = [
-        poll(Deed::Step(HostMove::Sc(0x84))),
-        ec(Deed::Ctl(Effect::Out(0))),
-        poll(Deed::Step(HostMove::Get(0))),
+        (POLL, Deed::Step(HostMove::Sc(0x84))),
+        (EC, Deed::Ctl(Effect::Out(0))),
+        (POLL, Deed::Step(HostMove::Get(0))),
     ];
     follow(&mut board, &last)?;
     follow(&mut board, &ends(2, Some(0)))?;
     let runs = [
-        w0(Deed::Start(3)),
-        w0(Deed::Notify(3, 128)),
-        w0(Deed::Finish(3)),
-        w0(Deed::Start(4)),
-        w0(Deed::Notify(4, 128)),
-        w0(Deed::Finish(4)),
+        (W0, Deed::Start(3)),
+        (W0, Deed::Notify(3, 128)),
+        (W0, Deed::Finish(3)),
+        (W0, Deed::Start(4)),
+        (W0, Deed::Notify(4, 128)),
+        (W0, Deed::Finish(4)),
     ];
     finish(&mut board, &runs)?;
     assert_eq!(rt; board.len(), 44);
@@ -198,24 +207,24 @@ fn a_write_to_the_space_is_seen_by_the_board(rt: HostRuntime) -> Result<(), Fail
     let parts = reading_space(rt.alloc(), parts, 0x5A, field(0, 2040, 8, false))?;
     let mut board = board_of(rt.alloc(), parts)?;
     let entries = [
-        f0(Deed::Seek),
-        f0(Deed::Own),
-        f0(Deed::Begin(Request::Wr(255, 7))),
-        f0(Deed::Step(HostMove::Sc(0x81))),
-        ec(Deed::Ctl(Effect::Taken)),
-        f0(Deed::Step(HostMove::Data(255))),
-        ec(Deed::Ctl(Effect::Taken)),
-        f0(Deed::Step(HostMove::Data(7))),
+        (F0, Deed::Seek),
+        (F0, Deed::Own),
+        (F0, Deed::Begin(Request::Wr(255, 7))),
+        (F0, Deed::Step(HostMove::Sc(0x81))),
+        (EC, Deed::Ctl(Effect::Taken)),
+        (F0, Deed::Step(HostMove::Data(255))),
+        (EC, Deed::Ctl(Effect::Taken)),
+        (F0, Deed::Step(HostMove::Data(7))),
     ];
     follow(&mut board, &entries)?;
     assert_eq!(rt; byte_at(&board, 255), Some(0x5A));
-    follow(&mut board, &[ec(Deed::Ctl(Effect::Put))])?;
+    follow(&mut board, &[(EC, Deed::Ctl(Effect::Put))])?;
     assert_eq!(rt; byte_at(&board, 255), Some(7));
     assert_eq!(rt; byte_at(&board, 256), None);
     let last = [
-        f0(Deed::Take(None)),
-        f0(Deed::Disown),
-        f0(Deed::Leave(false)),
+        (F0, Deed::Take(None)),
+        (F0, Deed::Disown),
+        (F0, Deed::Leave(false)),
     ];
     finish(&mut board, &last)
 }
@@ -224,7 +233,7 @@ fn a_write_to_the_space_is_seen_by_the_board(rt: HostRuntime) -> Result<(), Fail
 fn byte_at(board: &crate::Board, offset: u16) -> Option<u8> {
     let region = board.machine().regions().get(0)?;
     if usize::from(offset) < region.cells().len() {
-        Some(board.cell(cell(0, offset)))
+        Some(board.cell(Cell { region: 0, offset }))
     } else {
         None
     }

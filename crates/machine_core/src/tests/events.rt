@@ -1,6 +1,6 @@
 //! Edge and level events, references, parking and pulses.
 use super::machines::{
-    PWR, RTC, SLP, board_of, f0, finish, follow, int, listed, listing, poll, runs, w0, with_pulses,
+    F0, INT, POLL, PWR, RTC, SLP, W0, board_of, finish, follow, listed, listing, runs, with_pulses,
     with_script,
 };
 use crate::Board;
@@ -22,18 +22,18 @@ fn a_raise_during_a_run_is_another_run(rt: HostRuntime) -> Result<(), Fail> {
         rt.alloc(),
         listing(with_script(rt.alloc(), &raises)?, handler)?,
     )?;
-    follow(&mut board, &[f0(Deed::Raise(EDGE))])?;
+    follow(&mut board, &[(F0, Deed::Raise(EDGE))])?;
     assert_eq!(rt; board.pending(), Some(EDGE));
     let entries = [
-        int(Deed::Claim(EDGE)),
-        w0(Deed::Start(0)),
-        f0(Deed::Raise(EDGE)),
-        w0(Deed::Notify(1, 128)),
-        w0(Deed::Finish(0)),
-        int(Deed::Claim(EDGE)),
-        w0(Deed::Start(1)),
-        w0(Deed::Notify(1, 128)),
-        w0(Deed::Finish(1)),
+        (INT, Deed::Claim(EDGE)),
+        (W0, Deed::Start(0)),
+        (F0, Deed::Raise(EDGE)),
+        (W0, Deed::Notify(1, 128)),
+        (W0, Deed::Finish(0)),
+        (INT, Deed::Claim(EDGE)),
+        (W0, Deed::Start(1)),
+        (W0, Deed::Notify(1, 128)),
+        (W0, Deed::Finish(1)),
     ];
     finish(&mut board, &entries)?;
     assert_eq!(rt; board.len(), 10);
@@ -54,11 +54,11 @@ fn level_board(alloc: Global, handler: &[Op], firmware: &[Op]) -> Result<Board, 
 fn a_handler_that_drops_the_line_runs_once(rt: HostRuntime) -> Result<(), Fail> {
     let mut board = level_board(rt.alloc(), &[Op::Drop(LEVEL)], &[Op::Assert(LEVEL)])?;
     let entries = [
-        f0(Deed::Assert(LEVEL)),
-        int(Deed::Claim(LEVEL)),
-        w0(Deed::Start(0)),
-        w0(Deed::Drop(LEVEL)),
-        w0(Deed::Finish(0)),
+        (F0, Deed::Assert(LEVEL)),
+        (INT, Deed::Claim(LEVEL)),
+        (W0, Deed::Start(0)),
+        (W0, Deed::Drop(LEVEL)),
+        (W0, Deed::Finish(0)),
     ];
     follow(&mut board, &entries)?;
     assert!(rt; board.rest() && !board.parked(LEVEL));
@@ -68,7 +68,7 @@ fn a_handler_that_drops_the_line_runs_once(rt: HostRuntime) -> Result<(), Fail> 
 #[test]
 fn sixteen_runs_under_an_asserted_line_park_the_event(rt: HostRuntime) -> Result<(), Fail> {
     let mut board = level_board(rt.alloc(), &[], &[Op::Assert(LEVEL)])?;
-    follow(&mut board, &[f0(Deed::Assert(LEVEL))])?;
+    follow(&mut board, &[(F0, Deed::Assert(LEVEL))])?;
     runs(&mut board, LEVEL, 0, 16)?;
     assert!(rt; board.parked(LEVEL));
     assert_eq!(rt; board.pending(), None);
@@ -81,9 +81,9 @@ fn sixteen_runs_under_an_asserted_line_park_the_event(rt: HostRuntime) -> Result
 fn a_drop_frees_a_parked_event(rt: HostRuntime) -> Result<(), Fail> {
     let firmware = [Op::Assert(LEVEL), Op::Drop(LEVEL)];
     let mut board = level_board(rt.alloc(), &[], &firmware)?;
-    follow(&mut board, &[f0(Deed::Assert(LEVEL))])?;
+    follow(&mut board, &[(F0, Deed::Assert(LEVEL))])?;
     runs(&mut board, LEVEL, 0, 16)?;
-    follow(&mut board, &[f0(Deed::Drop(LEVEL))])?;
+    follow(&mut board, &[(F0, Deed::Drop(LEVEL))])?;
     assert!(rt; !board.parked(LEVEL) && !board.rest());
     assert_eq!(rt; board.pending(), Some(LEVEL));
     runs(&mut board, LEVEL, 16, 1)?;
@@ -99,11 +99,11 @@ fn two_pulses_may_be_one_latch(rt: HostRuntime) -> Result<(), Fail> {
         rt.alloc(),
         listing(with_pulses(rt.alloc(), &[EDGE, EDGE])?, handler)?,
     )?;
-    follow(&mut board, &[int(Deed::Latch(EDGE))])?;
+    follow(&mut board, &[(INT, Deed::Latch(EDGE))])?;
     let entries = [
-        poll(Deed::Claim(EDGE)),
-        w0(Deed::Start(0)),
-        w0(Deed::Finish(0)),
+        (POLL, Deed::Claim(EDGE)),
+        (W0, Deed::Start(0)),
+        (W0, Deed::Finish(0)),
     ];
     finish(&mut board, &entries)?;
     assert_eq!(rt; board.len(), 4);
@@ -118,13 +118,13 @@ fn references_stop_at_0_and_at_255(rt: HostRuntime) -> Result<(), Fail> {
     let parts = listing(parts, listed(rt.alloc(), SLP, 0, &[])?)?;
     let parts = listing(parts, listed(rt.alloc(), RTC, 255, &[])?)?;
     let mut board = board_of(rt.alloc(), parts)?;
-    follow(&mut board, &[f0(Deed::Raise(PWR))])?;
+    follow(&mut board, &[(F0, Deed::Raise(PWR))])?;
     let entries = [
-        int(Deed::Claim(PWR)),
-        w0(Deed::Start(0)),
-        w0(Deed::Down(SLP)),
-        w0(Deed::Up(RTC)),
-        w0(Deed::Finish(0)),
+        (INT, Deed::Claim(PWR)),
+        (W0, Deed::Start(0)),
+        (W0, Deed::Down(SLP)),
+        (W0, Deed::Up(RTC)),
+        (W0, Deed::Finish(0)),
     ];
     finish(&mut board, &entries)?;
     for (event, count) in [(PWR, 1), (SLP, 0), (RTC, 255)] {

@@ -1,6 +1,6 @@
 //! The Global Lock, contended by a worker and a firmware.
 use super::machines::{
-    GBL, PWR, board_of, cell, f0, finish, follow, int, poll, shared_cell, w0, with_pulses,
+    F0, FIRST, GBL, INT, POLL, PWR, W0, board_of, finish, follow, shared_cell, with_pulses,
     with_script,
 };
 use acpi_regs::{Actor, Deed, Side};
@@ -11,14 +11,14 @@ use std::test::Fail;
 fn a_busy_worker_waits_for_the_signal_of_the_firmware(rt: HostRuntime) -> Result<(), Fail> {
     let mut board = board_of(rt.alloc(), shared_cell(rt.alloc())?)?;
     let first = [
-        f0(Deed::Raise(PWR)),
-        f0(Deed::Seek),
-        f0(Deed::Own),
-        int(Deed::Claim(PWR)),
-        w0(Deed::Start(0)),
-        w0(Deed::Seek),
-        w0(Deed::Busy),
-        f0(Deed::Write(cell(0, 0), 16)),
+        (F0, Deed::Raise(PWR)),
+        (F0, Deed::Seek),
+        (F0, Deed::Own),
+        (INT, Deed::Claim(PWR)),
+        (W0, Deed::Start(0)),
+        (W0, Deed::Seek),
+        (W0, Deed::Busy),
+        (F0, Deed::Write(FIRST, 16)),
     ];
     follow(&mut board, &first)?;
     assert_eq!(rt; board.seeker(Side::Os), Some(Actor::Worker(0)));
@@ -27,20 +27,20 @@ fn a_busy_worker_waits_for_the_signal_of_the_firmware(rt: HostRuntime) -> Result
     assert_eq!(rt; board.act(Actor::Worker(0)), Some(Act::Lock));
     assert_eq!(rt; board.running(0), Some(0));
     assert!(rt; !board.wake(Side::Os));
-    let signal = [f0(Deed::Disown), f0(Deed::Leave(true))];
+    let signal = [(F0, Deed::Disown), (F0, Deed::Leave(true))];
     follow(&mut board, &signal)?;
     assert_eq!(rt; board.pending(), Some(GBL));
     assert_eq!(rt; board.seeker(Side::Firmware), None);
-    follow(&mut board, &[int(Deed::Claim(GBL))])?;
+    follow(&mut board, &[(INT, Deed::Claim(GBL))])?;
     assert!(rt; board.wake(Side::Os));
     let last = [
-        w0(Deed::Woken),
-        w0(Deed::Own),
-        w0(Deed::Read(cell(0, 0), 16)),
-        w0(Deed::Write(cell(0, 0), 17)),
-        w0(Deed::Disown),
-        w0(Deed::Leave(false)),
-        w0(Deed::Finish(0)),
+        (W0, Deed::Woken),
+        (W0, Deed::Own),
+        (W0, Deed::Read(FIRST, 16)),
+        (W0, Deed::Write(FIRST, 17)),
+        (W0, Deed::Disown),
+        (W0, Deed::Leave(false)),
+        (W0, Deed::Finish(0)),
     ];
     finish(&mut board, &last)?;
     assert!(rt; !board.wake(Side::Os));
@@ -53,24 +53,24 @@ fn a_busy_worker_waits_for_the_signal_of_the_firmware(rt: HostRuntime) -> Result
 fn a_busy_worker_may_say_so_after_the_signal(rt: HostRuntime) -> Result<(), Fail> {
     let mut board = board_of(rt.alloc(), shared_cell(rt.alloc())?)?;
     let entries = [
-        f0(Deed::Raise(PWR)),
-        f0(Deed::Seek),
-        f0(Deed::Own),
-        int(Deed::Claim(PWR)),
-        w0(Deed::Start(0)),
-        w0(Deed::Seek),
-        f0(Deed::Write(cell(0, 0), 16)),
-        f0(Deed::Disown),
-        f0(Deed::Leave(true)),
-        int(Deed::Claim(GBL)),
-        w0(Deed::Busy),
-        w0(Deed::Woken),
-        w0(Deed::Own),
-        w0(Deed::Read(cell(0, 0), 16)),
-        w0(Deed::Write(cell(0, 0), 17)),
-        w0(Deed::Disown),
-        w0(Deed::Leave(false)),
-        w0(Deed::Finish(0)),
+        (F0, Deed::Raise(PWR)),
+        (F0, Deed::Seek),
+        (F0, Deed::Own),
+        (INT, Deed::Claim(PWR)),
+        (W0, Deed::Start(0)),
+        (W0, Deed::Seek),
+        (F0, Deed::Write(FIRST, 16)),
+        (F0, Deed::Disown),
+        (F0, Deed::Leave(true)),
+        (INT, Deed::Claim(GBL)),
+        (W0, Deed::Busy),
+        (W0, Deed::Woken),
+        (W0, Deed::Own),
+        (W0, Deed::Read(FIRST, 16)),
+        (W0, Deed::Write(FIRST, 17)),
+        (W0, Deed::Disown),
+        (W0, Deed::Leave(false)),
+        (W0, Deed::Finish(0)),
     ];
     follow(&mut board, &entries)?;
     assert!(rt; board.rest());
@@ -81,14 +81,17 @@ fn a_busy_worker_may_say_so_after_the_signal(rt: HostRuntime) -> Result<(), Fail
 #[test]
 fn signals_that_nobody_waits_for_are_claimed(rt: HostRuntime) -> Result<(), Fail> {
     let mut raised = board_of(rt.alloc(), with_script(rt.alloc(), &[Op::Raise(GBL)])?)?;
-    follow(&mut raised, &[f0(Deed::Raise(GBL)), int(Deed::Claim(GBL))])?;
+    follow(
+        &mut raised,
+        &[(F0, Deed::Raise(GBL)), (INT, Deed::Claim(GBL))],
+    )?;
     assert!(rt; raised.rest() && raised.wake(Side::Os));
 
     let mut pulsed = board_of(rt.alloc(), with_pulses(rt.alloc(), &[GBL, GBL])?)?;
-    let latches = [int(Deed::Latch(GBL)), int(Deed::Latch(GBL))];
+    let latches = [(INT, Deed::Latch(GBL)), (INT, Deed::Latch(GBL))];
     follow(&mut pulsed, &latches)?;
     assert_eq!(rt; pulsed.pending(), Some(GBL));
-    finish(&mut pulsed, &[poll(Deed::Claim(GBL))])?;
+    finish(&mut pulsed, &[(POLL, Deed::Claim(GBL))])?;
     assert_eq!(rt; pulsed.len(), 3);
     Ok(())
 }

@@ -23,37 +23,26 @@ pub const RTC: Event = Event::Fixed(Fixed::Rtc);
 /// The controller's event.
 pub const OWN: Event = Event::Gpe(6);
 
-pub fn cell(region: u8, offset: u16) -> Cell {
-    Cell { region, offset }
-}
+pub const F0: Actor = Actor::Firmware(0);
 
-pub fn by(actor: Actor, deed: Deed) -> Entry {
-    Entry { actor, deed }
-}
+pub const W0: Actor = Actor::Worker(0);
 
-pub fn f0(deed: Deed) -> Entry {
-    by(Actor::Firmware(0), deed)
-}
+pub const W1: Actor = Actor::Worker(1);
 
-pub fn w0(deed: Deed) -> Entry {
-    by(Actor::Worker(0), deed)
-}
+pub const INT: Actor = Actor::Int;
 
-pub fn w1(deed: Deed) -> Entry {
-    by(Actor::Worker(1), deed)
-}
+pub const POLL: Actor = Actor::Poll;
 
-pub fn int(deed: Deed) -> Entry {
-    by(Actor::Int, deed)
-}
+pub const EC: Actor = Actor::Ec;
 
-pub fn poll(deed: Deed) -> Entry {
-    by(Actor::Poll, deed)
-}
+/// The first cell of the first region.
+pub const FIRST: Cell = Cell {
+    region: 0,
+    offset: 0,
+};
 
-pub fn ec(deed: Deed) -> Entry {
-    by(Actor::Ec, deed)
-}
+/// Who does what.
+pub type Step = (Actor, Deed);
 
 pub fn script(alloc: Global, ops: &[Op]) -> Result<Items<Op>, AllocError> {
     Ok(Items::new(ops.to_vec(alloc)?))
@@ -196,7 +185,8 @@ pub fn board_of(alloc: Global, parts: MachineParts) -> Result<Board, Fail> {
 }
 
 /// Applies an entry that is allowed.
-fn make(board: &mut Board, entry: Entry) -> Result<(), Fail> {
+fn make(board: &mut Board, actor: Actor, deed: Deed) -> Result<(), Fail> {
+    let entry = Entry { actor, deed };
     if !board.can(&entry) || board.refusal(&entry).is_some() {
         return Err(Fail::new("the entry is not allowed"));
     }
@@ -205,20 +195,20 @@ fn make(board: &mut Board, entry: Entry) -> Result<(), Fail> {
 }
 
 /// Applies entries that are allowed, one after another.
-pub fn follow(board: &mut Board, entries: &[Entry]) -> Result<(), Fail> {
-    for entry in entries {
-        make(board, *entry)?;
+pub fn follow(board: &mut Board, steps: &[Step]) -> Result<(), Fail> {
+    for (actor, deed) in steps {
+        make(board, *actor, *deed)?;
     }
     Ok(())
 }
 
 /// The same to the end of a history, where the board is at rest for the first time.
-pub fn finish(board: &mut Board, entries: &[Entry]) -> Result<(), Fail> {
-    for entry in entries {
+pub fn finish(board: &mut Board, steps: &[Step]) -> Result<(), Fail> {
+    for (actor, deed) in steps {
         if board.rest() {
             return Err(Fail::new("the board is at rest too early"));
         }
-        make(board, *entry)?;
+        make(board, *actor, *deed)?;
     }
     if board.rest() {
         Ok(())
@@ -228,9 +218,13 @@ pub fn finish(board: &mut Board, entries: &[Entry]) -> Result<(), Fail> {
 }
 
 /// Whether each entry is refused under its rule.
-pub fn refuses(board: &Board, cases: &[(Entry, LogRule)]) -> bool {
-    for (entry, rule) in cases {
-        if board.can(entry) || board.refusal(entry) != Some(*rule) {
+pub fn refuses(board: &Board, cases: &[(Step, LogRule)]) -> bool {
+    for ((actor, deed), rule) in cases {
+        let entry = Entry {
+            actor: *actor,
+            deed: *deed,
+        };
+        if board.can(&entry) || board.refusal(&entry) != Some(*rule) {
             return false;
         }
     }
@@ -242,9 +236,9 @@ pub fn runs(board: &mut Board, event: Event, first: u32, count: u32) -> Result<(
     for number in 0..count {
         let job = first.wrapping_add(number);
         let run = [
-            int(Deed::Claim(event)),
-            w0(Deed::Start(job)),
-            w0(Deed::Finish(job)),
+            (INT, Deed::Claim(event)),
+            (W0, Deed::Start(job)),
+            (W0, Deed::Finish(job)),
         ];
         follow(board, &run)?;
     }
@@ -252,21 +246,21 @@ pub fn runs(board: &mut Board, event: Event, first: u32, count: u32) -> Result<(
 }
 
 /// The beginning of a request by a worker that runs this job.
-pub fn begins(job: u32, request: Request) -> [Entry; 4] {
+pub fn begins(job: u32, request: Request) -> [Step; 4] {
     [
-        w0(Deed::Start(job)),
-        w0(Deed::Seek),
-        w0(Deed::Own),
-        w0(Deed::Begin(request)),
+        (W0, Deed::Start(job)),
+        (W0, Deed::Seek),
+        (W0, Deed::Own),
+        (W0, Deed::Begin(request)),
     ]
 }
 
 /// The end of a worker's request, and of its job.
-pub fn ends(job: u32, byte: Option<u8>) -> [Entry; 4] {
+pub fn ends(job: u32, byte: Option<u8>) -> [Step; 4] {
     [
-        w0(Deed::Take(byte)),
-        w0(Deed::Disown),
-        w0(Deed::Leave(false)),
-        w0(Deed::Finish(job)),
+        (W0, Deed::Take(byte)),
+        (W0, Deed::Disown),
+        (W0, Deed::Leave(false)),
+        (W0, Deed::Finish(job)),
     ]
 }

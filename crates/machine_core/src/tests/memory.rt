@@ -1,17 +1,24 @@
 //! Two firmware scripts that read and write memory, from an empty journal to their end.
-use super::machines::{board_of, by, cell, field, follow, script};
+use super::machines::{F0, FIRST, W0, W1, board_of, field, follow, refuses, script};
 use crate::{Board, LogRule};
-use acpi_regs::{Actor, Cell, Deed, Entry};
+use acpi_regs::{Actor, Cell, Deed};
 use field_units::RegionKind;
 use handler_script::{Act, Op};
 use machine_desc::{Items, MachineParts, RegionPart};
 use std::alloc::{AllocError, Global};
 use std::test::Fail;
 
-/// What a firmware does.
-fn by_firmware(number: u8, deed: Deed) -> Entry {
-    by(Actor::Firmware(number), deed)
-}
+const F1: Actor = Actor::Firmware(1);
+
+const SECOND: Cell = Cell {
+    region: 0,
+    offset: 1,
+};
+
+const OTHER: Cell = Cell {
+    region: 1,
+    offset: 0,
+};
 
 fn memory(alloc: Global, len: u16, byte: u8) -> Result<RegionPart, AllocError> {
     Ok(RegionPart {
@@ -70,99 +77,48 @@ fn two_scripts_go_act_by_act_to_their_end(rt: HostRuntime) -> Result<(), Fail> {
     // Two entries of the first script; a read, a write, and a read and a write of the second.
     assert_eq!(rt; board.machine().weight(), 6);
     assert!(rt; board.is_empty());
-    let entries = [
-        by_firmware(1, Deed::Read(cell(1, 0), 195)),
-        by_firmware(0, Deed::Write(cell(0, 0), 90)),
-        by_firmware(1, Deed::Write(cell(0, 0), 1)),
-    ];
-    // The value that was read is 12 and not 0, so the skip passes over the write to the first cell.
-    assert!(rt; !board.can(&entries[2]));
-    follow(&mut board, &entries[..2])?;
-    assert!(rt; !board.can(&entries[2]));
-
+    assert_eq!(rt; board.act(F1), Some(Act::Read(OTHER)));
+    // The value that is read is 12 and not 0, so the skip passes over the write to the first cell.
+    let first = [(F1, Deed::Read(OTHER, 195)), (F0, Deed::Write(FIRST, 90))];
+    follow(&mut board, &first)?;
     // Four bits of the cell stay: it is read before it is written.
-    let rest = [
-        (
-            Act::Read(cell(1, 0)),
-            by_firmware(1, Deed::Read(cell(1, 0), 195)),
-        ),
-        (
-            Act::Write(cell(1, 0), 0x53),
-            by_firmware(1, Deed::Write(cell(1, 0), 0x53)),
-        ),
-        (
-            Act::Read(cell(0, 0)),
-            by_firmware(0, Deed::Read(cell(0, 0), 90)),
-        ),
+    assert_eq!(rt; board.act(F1), Some(Act::Read(OTHER)));
+    let last = [
+        (F1, Deed::Read(OTHER, 195)),
+        (F1, Deed::Write(OTHER, 0x53)),
+        (F0, Deed::Read(FIRST, 90)),
     ];
-    for (act, entry) in rest {
-        assert_eq!(rt; board.act(entry.actor), Some(act));
-        follow(&mut board, &[entry])?;
-    }
-    for actor in [
-        Actor::Firmware(0),
-        Actor::Firmware(1),
-        Actor::Firmware(2),
-        Actor::Worker(0),
-    ] {
-        assert_eq!(rt; board.act(actor), None);
-    }
+    follow(&mut board, &last)?;
+    assert_eq!(rt; board.act(F0), None);
+    assert_eq!(rt; board.act(F1), None);
     assert_eq!(rt; board.len(), 5);
     assert!(rt; !board.is_empty());
-    let bytes = [
-        (cell(0, 0), Some(90)),
-        (cell(0, 1), Some(0)),
-        (cell(0, 2), None),
-        (cell(1, 0), Some(0x53)),
-        (cell(2, 0), None),
-    ];
-    for (cell, byte) in bytes {
-        assert_eq!(rt; byte_at(&board, cell), byte);
-    }
-    if 1 < board.len() {
-        assert_eq!(rt; board.entry(1), entries[1]);
-    }
+    assert_eq!(rt; byte_at(&board, FIRST), Some(90));
+    assert_eq!(rt; byte_at(&board, SECOND), Some(0));
+    assert_eq!(rt; byte_at(&board, OTHER), Some(0x53));
     Ok(())
 }
 
 #[test]
 fn no_other_entry_than_the_next_may_be_made(rt: HostRuntime) -> Result<(), Fail> {
     let mut board = small_board(rt.alloc())?;
-    let write = by_firmware(0, Deed::Write(cell(0, 0), 90));
     let not_first = [
-        (by_firmware(0, Deed::Write(cell(0, 0), 91)), LogRule::Next),
-        (by_firmware(0, Deed::Write(cell(0, 1), 90)), LogRule::Next),
-        (by_firmware(0, Deed::Write(cell(1, 0), 90)), LogRule::Next),
-        (by_firmware(0, Deed::Read(cell(0, 0), 7)), LogRule::Next),
-        (by_firmware(0, Deed::Seek), LogRule::Next),
-        (by_firmware(1, Deed::Write(cell(0, 0), 90)), LogRule::Next),
-        (by_firmware(1, Deed::Read(cell(1, 0), 12)), LogRule::Value),
-        (by_firmware(2, Deed::Write(cell(0, 0), 90)), LogRule::Actor),
-        (
-            by(Actor::Worker(0), Deed::Write(cell(0, 0), 90)),
-            LogRule::Next,
-        ),
-        (
-            by(Actor::Worker(1), Deed::Write(cell(0, 0), 90)),
-            LogRule::Actor,
-        ),
+        ((F0, Deed::Write(FIRST, 91)), LogRule::Next),
+        ((F0, Deed::Write(SECOND, 90)), LogRule::Next),
+        ((F0, Deed::Write(OTHER, 90)), LogRule::Next),
+        ((F0, Deed::Read(FIRST, 7)), LogRule::Next),
+        ((F1, Deed::Read(OTHER, 12)), LogRule::Value),
+        ((Actor::Firmware(2), Deed::Write(FIRST, 90)), LogRule::Actor),
+        ((W0, Deed::Write(FIRST, 90)), LogRule::Next),
+        ((W1, Deed::Write(FIRST, 90)), LogRule::Actor),
     ];
-    for (entry, rule) in not_first {
-        assert!(rt; !board.can(&entry));
-        assert_eq!(rt; board.refusal(&entry), Some(rule));
-    }
-    assert_eq!(rt; board.refusal(&write), None);
-    follow(&mut board, &[write])?;
+    assert!(rt; refuses(&board, &not_first));
+    follow(&mut board, &[(F0, Deed::Write(FIRST, 90))])?;
     let not_second = [
-        (write, LogRule::Next),
-        (by_firmware(0, Deed::Read(cell(0, 0), 7)), LogRule::Value),
-        (by_firmware(0, Deed::Read(cell(0, 1), 0)), LogRule::Next),
-        (by_firmware(0, Deed::Read(cell(1, 0), 90)), LogRule::Next),
-        (by(Actor::Ec, Deed::Read(cell(0, 0), 90)), LogRule::Actor),
+        ((F0, Deed::Write(FIRST, 90)), LogRule::Next),
+        ((F0, Deed::Read(FIRST, 7)), LogRule::Value),
+        ((F0, Deed::Read(SECOND, 0)), LogRule::Next),
     ];
-    for (entry, rule) in not_second {
-        assert!(rt; !board.can(&entry));
-        assert_eq!(rt; board.refusal(&entry), Some(rule));
-    }
+    assert!(rt; refuses(&board, &not_second));
     Ok(())
 }
