@@ -1,5 +1,5 @@
 -- Each access that needs the Global Lock is made by its owner.
-use Rattle.std.proofs.Common.{ℕ, zero, suc, ◌+◌, ◌≤◌, ◌≡◌, ◌==◌, ◌⊎◌, inl, inr, Bool, true, false, List, [], ◌∷◌, ◌++◌, reverse, unwrap_or, Option, Some, None, slice_get, if◌then◌else◌, nat_eq, refl, sym, ap, ◌∙◌, subst, append_assoc, arith}
+use Rattle.std.proofs.Common.{ℕ, zero, suc, ◌+◌, ◌≤◌, ◌≡◌, ◌==◌, ◌⊎◌, inl, inr, Bool, true, false, List, [], ◌∷◌, ◌++◌, reverse, unwrap_or, Option, Some, None, slice_get, if◌then◌else◌, nat_eq, refl, sym, ap, ◌∙◌, subst, append_assoc, arith, ◌||◌, not, is_some, ◌&&◌}
 use Rattle.std.proofs.lemmas.Bool.{and_from, and_parts, eq-eqb, eqb-true}
 use Rattle.std.proofs.lemmas.List.{reverse-append}
 use Rattle.acpi_regs.specs.declared.actor.Actor.{Actor}
@@ -11,13 +11,14 @@ use Rattle.acpi_regs.specs.declared.entry.Deed.TheVariants as deed
 use Rattle.acpi_regs.specs.declared.entry.Effect.{Effect}
 use Rattle.acpi_regs.specs.declared.entry.Effect.TheVariants as effect
 use Rattle.acpi_regs.specs.declared.entry.Entry.{Entry}
+use Rattle.acpi_regs.specs.declared.entry.HostMove.{HostMove}
 use Rattle.acpi_regs.specs.declared.entry.Request.{Request}
 use Rattle.acpi_regs.specs.declared.entry.Request.TheVariants as request
 use Rattle.acpi_regs.specs.declared.event.Event.{Event}
-use Rattle.acpi_regs.specs.Actor.{same_actor}
+use Rattle.acpi_regs.specs.Actor.{same_actor, stands_on}
 use Rattle.acpi_regs.specs.Event.{same_event}
 use Rattle.acpi_regs.specs.History.{past_of}
-use Rattle.acpi_regs.specs.Lock.{is_someone, owner}
+use Rattle.acpi_regs.specs.Lock.{has_disowned, has_owned, is_busy, is_someone, owner}
 use Rattle.ec_driver.specs.declared.wire.Move.TheVariants as move
 use Rattle.ec_driver.specs.Wire.{wire}
 use Rattle.handler_script.specs.declared.act.Act.{Act}
@@ -34,18 +35,19 @@ use Rattle.machine_desc.proofs.EachItem.{Each, each_all}
 use Rattle.machine_history.specs.declared.parts.Access.{Access}
 use Rattle.machine_history.specs.declared.parts.Job.{Job}
 use Rattle.machine_history.specs.declared.parts.Job.TheVariants as job
-use Rattle.machine_history.specs.Exclusion.{AccessesByOwner, DisownsBetween, ReadsLast, entry, made_by, makes, needs_lock}
+use Rattle.machine_history.specs.Exclusion.{AccessesByOwner, DisownsBetween, LeavesNext, ReadsLast, entry, made_by, makes, needs_lock}
 use Rattle.machine_history.specs.Jobs.{jobs}
-use Rattle.machine_history.specs.Legal.{Allowed, Legal, LegalPast, asked, asked_by, is_ctl_move, is_next}
+use Rattle.machine_history.specs.Legal.{Allowed, Legal, LegalPast, asked, asked_by, has_quit, is_ctl_move, is_firmware, is_host, is_int, is_leave, is_next, is_seeker, may_step, runs_scripts}
 use Rattle.machine_history.specs.Machine.{query_in, script_in, space}
 use Rattle.machine_history.specs.Scripts.{first_plan, job_plan, left_after, next_of, plan_left}
 use Rattle.machine_history.specs.Values.{access_of, answer, blank, ctl_access, next_in, open_access, same_cell, value}
-use Rattle.machine_history.specs.Wire.{Open, moved, open_after, open_of, put_out}
+use Rattle.machine_history.specs.Sentences.{StepsByHosts}
+use Rattle.machine_history.specs.Wire.{Open, due, moved, open_after, open_of, put_out}
 use Rattle.machine_history.proofs.Fronts.{ctl_next}
 use Rattle.machine_history.proofs.Keeping.{AsksAt, Kept, is_plain, kept, lock_plain, opener_asks, some_asked, start_free}
 use Rattle.machine_history.proofs.Known.{hold, is_none-none, same_actor-true, same_cell-self, same_cell-true, same_self, some-injective}
 use Rattle.machine_history.proofs.Places.{legal-each, legal-front, legal-tail, reverse-cons, slice_get-push}
-use Rattle.machine_history.proofs.Stages.{Away, Busied, Disowned, Follows, Owned, Sought, Stage, follows_own, is_owned, is_trying_at, stage, stage_after, staged}
+use Rattle.machine_history.proofs.Stages.{Away, Busied, Disowned, Follows, Owned, Sought, Stage, Words, follows_own, is_active, is_owned, is_trying_at, stage, stage_after, staged}
 
 -- ---- plans and the lock
 
@@ -413,3 +415,50 @@ disowns_between m earlier between later a b legal =
   where
     both : (o : Option Actor) → o ≡ None → o ≡ Some a → ⊥
     both o none some = cc
+
+-- ---- between a disown and a leave
+
+-- others' entries leave an actor's stage
+stage_beside : (a : Actor) (newer older : List Entry) → ((j : ℕ) (e : Entry) → slice_get newer j ≡ Some e → same_actor a e.actor ≡ false) → stage a (newer ++ older) ≡ stage a older
+stage_beside a [] older others = refl
+stage_beside a (e ∷ newer) older others = rw (others zero e refl) (stage_beside a newer older (λ j x at. others (suc j) x at))
+
+quit_now : (m : MachineData) (past : List Entry) (a : Actor) → LegalPast m past → runs_scripts m a ≡ true → stage a past ≡ Disowned → has_quit m past a ≡ true
+quit_now m past a legal runs is =
+    let at = staged m past a legal in
+    let words = subst (λ st. Words st (has_owned a past) (has_disowned a past) (is_busy a past)) is at.2 in
+    and_from (runs_scripts m a && is_seeker past a) (has_disowned a past) (and_from (runs_scripts m a) (is_seeker past a) runs (at.0 ∙ ap is_active is)) words.1
+
+only_leaves : (b l : Bool) → b ≡ true → (if b then l else not l) ≡ true → l ≡ true
+only_leaves true l is h = h
+only_leaves false l is h = cc
+
+pub leaves_next : (m : MachineData) → LeavesNext m
+leaves_next m earlier between later a d legal others =
+    let whole = legal-tail m (reverse later) (entry a d ∷ (reverse between ++ (entry a deed.Disown ∷ reverse earlier))) (subst (LegalPast m) (reversed earlier between later (entry a deed.Disown) (entry a d)) legal) in
+    let disown = (legal-tail m (reverse between) (entry a deed.Disown ∷ reverse earlier) whole.1).0 in
+    let here : stage a (entry a deed.Disown ∷ reverse earlier) ≡ Disowned = rw (same_self a) refl in
+    let is = stage_beside a (reverse between) (entry a deed.Disown ∷ reverse earlier) (λ j e at. (let stands = stands_reverse e between (j, at) in others stands.0 e stands.1)) ∙ here in
+    let quit = quit_now m (reverse between ++ (entry a deed.Disown ∷ reverse earlier)) a whole.1 (hold m (reverse earlier) a deed.Disown disown).0 is in
+    only_leaves _ (is_leave d) quit (hold m (reverse between ++ (entry a deed.Disown ∷ reverse earlier)) a d whole.0).1.0
+
+-- ---- who steps
+
+step_host : (m : MachineData) (o : Open) (a : Actor) (b : Bool) → stands_on side.Os o.by ≡ b → may_step m (Some o) a ≡ true → (b ≡ true → is_host a ≡ true) × (b ≡ false → a ≡ o.by)
+step_host m o a true is may = (λ t. subst (λ x. (if x then is_host a else (is_firmware m a && same_actor a o.by)) ≡ true) is may, λ f. cc)
+step_host m o a false is may = (λ t. cc, λ f. same_actor-true a o.by (and_parts (is_firmware m a) (same_actor a o.by) (subst (λ x. (if x then is_host a else (is_firmware m a && same_actor a o.by)) ≡ true) is may)).1)
+
+due_int : (m : MachineData) (past : List Entry) (a : Actor) → (not (is_int a) || due m past) ≡ true → a ≡ actor.Int → due m past ≡ true
+due_int m past a h is = subst (λ x. (not (is_int x) || due m past) ≡ true) is h
+
+step_of : (m : MachineData) (past : List Entry) (a : Actor) (h : HostMove) (oo : Option Open) → open_of past ≡ oo → Allowed m past (entry a (deed.Step h))
+    → (o : Open) × (oo ≡ Some o) × (stands_on side.Os o.by ≡ true → is_host a ≡ true) × (stands_on side.Os o.by ≡ false → a ≡ o.by) × (a ≡ actor.Int → due m past ≡ true)
+step_of m past a h None is ok = let some = ap is_some (sym is) in let held = (hold m past a (deed.Step h) ok).1.1.0 in cc
+step_of m past a h (Some o) is ok =
+    let c = hold m past a (deed.Step h) ok in
+    let who = step_host m o a (stands_on side.Os o.by) refl (subst (λ oo. may_step m oo a ≡ true) is c.0) in
+    (o, refl, who.0, who.1, due_int m past a c.1.1.1.1.0)
+
+pub steps_by_hosts : (m : MachineData) (history : List Entry) → Legal m history → StepsByHosts m history
+steps_by_hosts m history legal i e h at is =
+    step_of m (past_of history i) e.actor h (open_of (past_of history i)) refl (subst (λ d. Allowed m (past_of history i) (entry e.actor d)) is (legal-each m history legal i e at))

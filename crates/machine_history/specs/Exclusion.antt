@@ -5,6 +5,7 @@ use Rattle.acpi_regs.specs.declared.entry.Deed.{Deed}
 use Rattle.acpi_regs.specs.declared.entry.Deed.TheVariants as deed
 use Rattle.acpi_regs.specs.declared.entry.Entry.{Entry}
 use Rattle.acpi_regs.specs.declared.entry.Request.TheVariants as request
+use Rattle.acpi_regs.specs.Actor.{same_actor}
 use Rattle.acpi_regs.specs.History.{past_of}
 use Rattle.acpi_regs.specs.Lock.{owner}
 use Rattle.handler_script.specs.declared.act.Act.{Act}
@@ -12,7 +13,7 @@ use Rattle.handler_script.specs.declared.act.Act.TheVariants as act
 use Rattle.handler_script.specs.Plan.{Plan, Do, End}
 use Rattle.machine_desc.specs.Machine.{MachineData}
 use Rattle.machine_history.specs.declared.parts.Access.{Access}
-use Rattle.machine_history.specs.Legal.{Legal}
+use Rattle.machine_history.specs.Legal.{Legal, is_leave}
 use Rattle.machine_history.specs.Machine.{space}
 use Rattle.machine_history.specs.Scripts.{next_of, plan_left}
 use Rattle.machine_history.specs.Values.{access_of, same_cell, value}
@@ -50,3 +51,8 @@ entry a d = record { actor = a; deed = d }
 -- between an own and the next one its actor disowns
 abbrev pub DisownsBetween : MachineData → Type 0
 DisownsBetween m = (earlier between later : List Entry) (a b : Actor) → Legal m (earlier ++ (entry a deed.Own ∷ (between ++ (entry b deed.Own ∷ later)))) → (j : ℕ) × (slice_get between j ≡ Some (entry a deed.Disown))
+
+-- the next entry that an actor makes after its disown is its leave
+abbrev pub LeavesNext : MachineData → Type 0
+LeavesNext m =
+    (earlier between later : List Entry) (a : Actor) (d : Deed) → Legal m (earlier ++ (entry a deed.Disown ∷ (between ++ (entry a d ∷ later)))) → ((j : ℕ) (e : Entry) → slice_get between j ≡ Some e → same_actor a e.actor ≡ false) → is_leave d ≡ true

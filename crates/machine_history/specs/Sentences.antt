@@ -1,10 +1,14 @@
 -- The sentences that other definitions stand for: parked events, jobs in order, codes, the wire, and what a claim consumes.
 use Rattle.std.specs.Prelude.{ℕ, ◌==◌, ◌<◌, ◌≤◌, ◌≡◌, ◌↔◌, Bool, true, false, List, [], ◌∷◌, ◌++◌, length, reverse, count_by, filter_map, flat_map, unwrap_or, Option, Some, None, slice_get, if◌then◌else◌}
+use Rattle.acpi_regs.specs.declared.actor.Actor.TheVariants as actor
+use Rattle.acpi_regs.specs.declared.actor.Side.TheVariants as side
 use Rattle.acpi_regs.specs.declared.entry.Deed.{Deed}
 use Rattle.acpi_regs.specs.declared.entry.Deed.TheVariants as deed
 use Rattle.acpi_regs.specs.declared.entry.Effect.TheVariants as effect
 use Rattle.acpi_regs.specs.declared.entry.Entry.{Entry}
+use Rattle.acpi_regs.specs.declared.entry.HostMove.{HostMove}
 use Rattle.acpi_regs.specs.declared.event.Event.{Event}
+use Rattle.acpi_regs.specs.Actor.{stands_on}
 use Rattle.acpi_regs.specs.History.{past_of}
 use Rattle.ec_driver.specs.declared.wire.Move.{Move}
 use Rattle.ec_driver.specs.declared.wire.Move.TheVariants as move
@@ -18,8 +22,9 @@ use Rattle.machine_history.specs.declared.parts.Job.TheVariants as job
 use Rattle.machine_history.specs.Events.{latches, line, parked, pending, touched}
 use Rattle.machine_history.specs.Jobs.{jobs}
 use Rattle.machine_history.specs.Last.{SetsAt, done_to, status_set}
+use Rattle.machine_history.specs.Legal.{is_host}
 use Rattle.machine_history.specs.Machine.{kind_of, pulses_of}
-use Rattle.machine_history.specs.Wire.{Open, code, codes, given, is_query, open_of}
+use Rattle.machine_history.specs.Wire.{Open, code, codes, due, given, is_query, open_of}
 
 -- ---- parked
 
@@ -148,3 +153,10 @@ moves (e ∷ past) = moves_after e.deed (moves past)
 -- they are a front of the moves of the open request, with some byte in the blank
 abbrev pub FrontOfWire : List Entry → Open → Type 0
 FrontOfWire past o = (b : ℕ) × (rest : List Move) × (wire o.asks b ≡ moves past ++ rest) × (length (moves past) ≡ o.made)
+
+-- Each step is made while a transaction is open: by the interrupt handler or by polling where one of the OS's side began it, and
+-- by the firmware itself where a firmware did. The interrupt handler's comes where it has claimed the controller's event since
+-- its last one.
+abbrev pub StepsByHosts : MachineData → List Entry → Type 0
+StepsByHosts m history = (i : ℕ) (e : Entry) (h : HostMove) → slice_get history i ≡ Some e → e.deed ≡ deed.Step h
+    → (o : Open) × (open_of (past_of history i) ≡ Some o) × (stands_on side.Os o.by ≡ true → is_host e.actor ≡ true) × (stands_on side.Os o.by ≡ false → e.actor ≡ o.by) × (e.actor ≡ actor.Int → due m (past_of history i) ≡ true)

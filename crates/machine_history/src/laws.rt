@@ -16,13 +16,13 @@ ghost use Rattle.machine_history.specs.Acts.{fits};
 ghost use Rattle.machine_history.specs.Cells.{first_byte};
 ghost use Rattle.machine_history.specs.Complete.{Complete};
 ghost use Rattle.machine_history.specs.Events.{held, line, status};
-ghost use Rattle.machine_history.specs.Exclusion.{AccessesByOwner, DisownsBetween, ReadsLast};
+ghost use Rattle.machine_history.specs.Exclusion.{AccessesByOwner, DisownsBetween, LeavesNext, ReadsLast};
 ghost use Rattle.machine_history.specs.Jobs.{running};
 ghost use Rattle.machine_history.specs.Last.{IsLast, burst_set, busy_set, disowned_set, due_set, gbl_set, held_set, line_set, opener_in, opener_set, owned_set, owner_set, running_set, seeker_set, status_set, told, value_set, wake_set};
 ghost use Rattle.machine_history.specs.Legal.{EachAllowed, Legal};
 ghost use Rattle.machine_history.specs.Once.{IsFirstLeft, JobsOnce, ScriptsOnce};
 ghost use Rattle.machine_history.specs.Scripts.{plan_left};
-ghost use Rattle.machine_history.specs.Sentences.{ClaimsConsume, CodesInOrder, FrontOfWire, JobsDone, JobsInOrder, LatchesFromPulses, ParksAfterSixteen, RunsAsGiven};
+ghost use Rattle.machine_history.specs.Sentences.{ClaimsConsume, CodesInOrder, FrontOfWire, JobsDone, JobsInOrder, LatchesFromPulses, ParksAfterSixteen, RunsAsGiven, StepsByHosts};
 ghost use Rattle.machine_history.specs.Values.{value};
 ghost use Rattle.machine_history.specs.Wire.{Open, burst, due, open_of};
 
@@ -153,10 +153,18 @@ pub fn law_reads_last()
 
 /// In a legal history of a machine each access is made for the next act of the actor to whom it is credited, also where the
 /// controller makes it, and where that act needs the Global Lock its actor owns it. Between an own and the next own the actor
-/// of the first disowns.
+/// of the first disowns, and the next entry of an actor after its disown is its leave.
 pub fn law_exclusion()
     ensures owner { (m : MachineData) (history : List Entry) → IsMachine m → Legal m history → AccessesByOwner m history }
     ensures between { (m : MachineData) → DisownsBetween m }
+    ensures leaves { (m : MachineData) → LeavesNext m }
+{}
+
+/// In a legal history each step is made while a transaction is open: by the interrupt handler or by polling where one of the
+/// OS's side began it, by the firmware itself where a firmware did; and by the interrupt handler only where it has claimed the
+/// controller's event since its last step.
+pub fn law_steps()
+    ensures { (m : MachineData) (history : List Entry) → Legal m history → StepsByHosts m history }
 {}
 
 /// Conditions of the table of entries are equal, by `==`, exactly where they are the same.
