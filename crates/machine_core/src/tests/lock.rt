@@ -3,13 +3,19 @@ use super::machines::{
     F0, FIRST, GBL, INT, POLL, PWR, W0, board_of, finish, follow, shared_cell, with_pulses,
     with_script,
 };
+use crate::Board;
 use acpi_regs::{Actor, Deed, Side};
 use handler_script::{Act, Op};
+use std::process::Abort;
 use std::test::Fail;
 
 #[test]
 fn a_busy_worker_waits_for_the_signal_of_the_firmware(rt: HostRuntime) -> Result<(), Fail> {
     let mut board = board_of(rt.alloc(), shared_cell(rt.alloc())?)?;
+    waits_for_the_signal(&rt, &mut board)
+}
+
+fn waits_for_the_signal(rt: &impl Abort, board: &mut Board) -> Result<(), Fail> {
     let first = [
         (F0, Deed::Raise(PWR)),
         (F0, Deed::Seek),
@@ -20,7 +26,7 @@ fn a_busy_worker_waits_for_the_signal_of_the_firmware(rt: HostRuntime) -> Result
         (W0, Deed::Busy),
         (F0, Deed::Write(FIRST, 16)),
     ];
-    follow(&mut board, &first)?;
+    follow(board, &first)?;
     assert_eq!(rt; board.seeker(Side::Os), Some(Actor::Worker(0)));
     assert_eq!(rt; board.seeker(Side::Firmware), Some(Actor::Firmware(0)));
     assert_eq!(rt; board.act(Actor::Firmware(0)), Some(Act::Unlock));
@@ -28,10 +34,10 @@ fn a_busy_worker_waits_for_the_signal_of_the_firmware(rt: HostRuntime) -> Result
     assert_eq!(rt; board.running(0), Some(0));
     assert!(rt; !board.wake(Side::Os));
     let signal = [(F0, Deed::Disown), (F0, Deed::Leave(true))];
-    follow(&mut board, &signal)?;
+    follow(board, &signal)?;
     assert_eq!(rt; board.pending(), Some(GBL));
     assert_eq!(rt; board.seeker(Side::Firmware), None);
-    follow(&mut board, &[(INT, Deed::Claim(GBL))])?;
+    follow(board, &[(INT, Deed::Claim(GBL))])?;
     assert!(rt; board.wake(Side::Os));
     let last = [
         (W0, Deed::Woken),
@@ -42,7 +48,7 @@ fn a_busy_worker_waits_for_the_signal_of_the_firmware(rt: HostRuntime) -> Result
         (W0, Deed::Leave(false)),
         (W0, Deed::Finish(0)),
     ];
-    finish(&mut board, &last)?;
+    finish(board, &last)?;
     assert!(rt; !board.wake(Side::Os));
     assert_eq!(rt; board.len(), 18);
     assert_eq!(rt; board.running(0), None);
@@ -52,6 +58,10 @@ fn a_busy_worker_waits_for_the_signal_of_the_firmware(rt: HostRuntime) -> Result
 #[test]
 fn a_busy_worker_may_say_so_after_the_signal(rt: HostRuntime) -> Result<(), Fail> {
     let mut board = board_of(rt.alloc(), shared_cell(rt.alloc())?)?;
+    says_so_late(&rt, &mut board)
+}
+
+fn says_so_late(rt: &impl Abort, board: &mut Board) -> Result<(), Fail> {
     let entries = [
         (F0, Deed::Raise(PWR)),
         (F0, Deed::Seek),
@@ -72,26 +82,34 @@ fn a_busy_worker_may_say_so_after_the_signal(rt: HostRuntime) -> Result<(), Fail
         (W0, Deed::Leave(false)),
         (W0, Deed::Finish(0)),
     ];
-    follow(&mut board, &entries)?;
+    follow(board, &entries)?;
     assert!(rt; board.rest());
     assert_eq!(rt; board.len(), 18);
     Ok(())
 }
 
 #[test]
-fn signals_that_nobody_waits_for_are_claimed(rt: HostRuntime) -> Result<(), Fail> {
-    let mut raised = board_of(rt.alloc(), with_script(rt.alloc(), &[Op::Raise(GBL)])?)?;
+fn a_signal_that_nobody_waits_for_is_claimed(rt: HostRuntime) -> Result<(), Fail> {
+    let mut board = board_of(rt.alloc(), with_script(rt.alloc(), &[Op::Raise(GBL)])?)?;
     follow(
-        &mut raised,
+        &mut board,
         &[(F0, Deed::Raise(GBL)), (INT, Deed::Claim(GBL))],
     )?;
-    assert!(rt; raised.rest() && raised.wake(Side::Os));
+    assert!(rt; board.rest() && board.wake(Side::Os));
+    Ok(())
+}
 
-    let mut pulsed = board_of(rt.alloc(), with_pulses(rt.alloc(), &[GBL, GBL])?)?;
+#[test]
+fn pulses_of_the_lock_are_claimed_at_once(rt: HostRuntime) -> Result<(), Fail> {
+    let mut board = board_of(rt.alloc(), with_pulses(rt.alloc(), &[GBL, GBL])?)?;
+    pulses_are_claimed(&rt, &mut board)
+}
+
+fn pulses_are_claimed(rt: &impl Abort, board: &mut Board) -> Result<(), Fail> {
     let latches = [(INT, Deed::Latch(GBL)), (INT, Deed::Latch(GBL))];
-    follow(&mut pulsed, &latches)?;
-    assert_eq!(rt; pulsed.pending(), Some(GBL));
-    finish(&mut pulsed, &[(POLL, Deed::Claim(GBL))])?;
-    assert_eq!(rt; pulsed.len(), 3);
+    follow(board, &latches)?;
+    assert_eq!(rt; board.pending(), Some(GBL));
+    finish(board, &[(POLL, Deed::Claim(GBL))])?;
+    assert_eq!(rt; board.len(), 3);
     Ok(())
 }

@@ -6,6 +6,7 @@ use field_units::RegionKind;
 use handler_script::{Act, Op};
 use machine_desc::{Items, MachineParts, RegionPart};
 use std::alloc::{AllocError, Global};
+use std::process::Abort;
 use std::test::Fail;
 
 const F1: Actor = Actor::Firmware(1);
@@ -74,13 +75,17 @@ fn byte_at(board: &Board, cell: Cell) -> Option<u8> {
 #[test]
 fn two_scripts_go_act_by_act_to_their_end(rt: HostRuntime) -> Result<(), Fail> {
     let mut board = small_board(rt.alloc())?;
+    two_scripts(&rt, &mut board)
+}
+
+fn two_scripts(rt: &impl Abort, board: &mut Board) -> Result<(), Fail> {
     // Two entries of the first script; a read, a write, and a read and a write of the second.
     assert_eq!(rt; board.machine().weight(), 6);
     assert!(rt; board.is_empty());
     assert_eq!(rt; board.act(F1), Some(Act::Read(OTHER)));
     // The value that is read is 12 and not 0, so the skip passes over the write to the first cell.
     let first = [(F1, Deed::Read(OTHER, 195)), (F0, Deed::Write(FIRST, 90))];
-    follow(&mut board, &first)?;
+    follow(board, &first)?;
     // Four bits of the cell stay: it is read before it is written.
     assert_eq!(rt; board.act(F1), Some(Act::Read(OTHER)));
     let last = [
@@ -88,20 +93,24 @@ fn two_scripts_go_act_by_act_to_their_end(rt: HostRuntime) -> Result<(), Fail> {
         (F1, Deed::Write(OTHER, 0x53)),
         (F0, Deed::Read(FIRST, 90)),
     ];
-    follow(&mut board, &last)?;
+    follow(board, &last)?;
     assert_eq!(rt; board.act(F0), None);
     assert_eq!(rt; board.act(F1), None);
     assert_eq!(rt; board.len(), 5);
     assert!(rt; !board.is_empty());
-    assert_eq!(rt; byte_at(&board, FIRST), Some(90));
-    assert_eq!(rt; byte_at(&board, SECOND), Some(0));
-    assert_eq!(rt; byte_at(&board, OTHER), Some(0x53));
+    assert_eq!(rt; byte_at(board, FIRST), Some(90));
+    assert_eq!(rt; byte_at(board, SECOND), Some(0));
+    assert_eq!(rt; byte_at(board, OTHER), Some(0x53));
     Ok(())
 }
 
 #[test]
 fn no_other_entry_than_the_next_may_be_made(rt: HostRuntime) -> Result<(), Fail> {
     let mut board = small_board(rt.alloc())?;
+    other_entries(&rt, &mut board)
+}
+
+fn other_entries(rt: &impl Abort, board: &mut Board) -> Result<(), Fail> {
     let not_first = [
         ((F0, Deed::Write(FIRST, 91)), LogRule::Next),
         ((F0, Deed::Write(SECOND, 90)), LogRule::Next),
@@ -112,13 +121,13 @@ fn no_other_entry_than_the_next_may_be_made(rt: HostRuntime) -> Result<(), Fail>
         ((W0, Deed::Write(FIRST, 90)), LogRule::Next),
         ((W1, Deed::Write(FIRST, 90)), LogRule::Actor),
     ];
-    assert!(rt; refuses(&board, &not_first));
-    follow(&mut board, &[(F0, Deed::Write(FIRST, 90))])?;
+    assert!(rt; refuses(board, &not_first));
+    follow(board, &[(F0, Deed::Write(FIRST, 90))])?;
     let not_second = [
         ((F0, Deed::Write(FIRST, 90)), LogRule::Next),
         ((F0, Deed::Read(FIRST, 7)), LogRule::Value),
         ((F0, Deed::Read(SECOND, 0)), LogRule::Next),
     ];
-    assert!(rt; refuses(&board, &not_second));
+    assert!(rt; refuses(board, &not_second));
     Ok(())
 }

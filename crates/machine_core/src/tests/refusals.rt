@@ -3,11 +3,14 @@ use super::machines::{
     EC, F0, FIRST, GBL, INT, OWN, POLL, PWR, SLP, Step, W0, W1, begins, board_of, field, follow,
     listed, listing, reading_space, refuses, shared_cell, with_controller, with_pulses,
 };
+use crate::Board;
 use crate::LogRule::{
     self, Begin, Busy, Due, Job, Latch, Next, Owner, Seeker, Status, Value, Wake, Wire,
 };
 use acpi_regs::{Actor, Cell, Deed, Effect, HostMove, Request};
 use handler_script::Op;
+use std::alloc::Global;
+use std::process::Abort;
 use std::test::Fail;
 
 #[test]
@@ -63,13 +66,21 @@ fn at_the_start() -> [(Step, LogRule); 22] {
     ]
 }
 
+fn two_workers(alloc: Global) -> Result<Board, Fail> {
+    let mut parts = shared_cell(alloc)?;
+    parts.workers = 2;
+    let parts = listing(parts, listed(alloc, SLP, 1, &[Op::Add(0, 1)])?)?;
+    board_of(alloc, parts)
+}
+
 #[test]
 fn what_fails_of_the_rows_of_the_lock(rt: HostRuntime) -> Result<(), Fail> {
-    let mut parts = shared_cell(rt.alloc())?;
-    parts.workers = 2;
-    let parts = listing(parts, listed(rt.alloc(), SLP, 1, &[Op::Add(0, 1)])?)?;
-    let mut board = board_of(rt.alloc(), parts)?;
-    assert!(rt; refuses(&board, &at_the_start()));
+    let mut board = two_workers(rt.alloc())?;
+    lock_rows(&rt, &mut board)
+}
+
+fn lock_rows(rt: &impl Abort, board: &mut Board) -> Result<(), Fail> {
+    assert!(rt; refuses(board, &at_the_start()));
     let first = [
         (F0, Deed::Raise(PWR)),
         (F0, Deed::Seek),
@@ -78,7 +89,7 @@ fn what_fails_of_the_rows_of_the_lock(rt: HostRuntime) -> Result<(), Fail> {
         (W0, Deed::Start(0)),
         (W0, Deed::Seek),
     ];
-    follow(&mut board, &first)?;
+    follow(board, &first)?;
     let trying = [
         ((INT, Deed::Claim(PWR)), Status),
         ((W1, Deed::Start(0)), Job),
@@ -93,30 +104,30 @@ fn what_fails_of_the_rows_of_the_lock(rt: HostRuntime) -> Result<(), Fail> {
         ((F0, Deed::Disown), Next),
         ((F0, Deed::Write(FIRST, 17)), Next),
     ];
-    assert!(rt; refuses(&board, &trying));
-    follow(&mut board, &[(W0, Deed::Busy)])?;
+    assert!(rt; refuses(board, &trying));
+    follow(board, &[(W0, Deed::Busy)])?;
     let busy = [
         ((W0, Deed::Busy), Busy),
         ((W0, Deed::Own), Busy),
         ((W0, Deed::Woken), Wake),
     ];
-    assert!(rt; refuses(&board, &busy));
+    assert!(rt; refuses(board, &busy));
     let leaving = [(F0, Deed::Write(FIRST, 16)), (F0, Deed::Disown)];
-    follow(&mut board, &leaving)?;
+    follow(board, &leaving)?;
     let quit = [
         ((F0, Deed::Seek), Seeker),
         ((F0, Deed::Write(FIRST, 16)), Seeker),
         ((F0, Deed::Own), Seeker),
         ((W0, Deed::Leave(true)), Seeker),
     ];
-    assert!(rt; refuses(&board, &quit));
+    assert!(rt; refuses(board, &quit));
     let owning = [
         (F0, Deed::Leave(true)),
         (INT, Deed::Claim(GBL)),
         (W0, Deed::Woken),
         (W0, Deed::Own),
     ];
-    follow(&mut board, &owning)?;
+    follow(board, &owning)?;
     let values = [
         ((W0, Deed::Read(FIRST, 17)), Value),
         (
@@ -134,26 +145,31 @@ fn what_fails_of_the_rows_of_the_lock(rt: HostRuntime) -> Result<(), Fail> {
         ),
         ((W0, Deed::Woken), Seeker),
     ];
-    assert!(rt; refuses(&board, &values));
+    assert!(rt; refuses(board, &values));
     Ok(())
+}
+
+fn fickle_board(alloc: Global) -> Result<Board, Fail> {
+    let parts = with_controller(alloc, true, true, &[Op::Raise(PWR)])?;
+    let parts = reading_space(alloc, parts, 0x5A, field(0, 2040, 8, false))?;
+    board_of(alloc, parts)
 }
 
 #[test]
 fn what_fails_of_the_rows_of_the_controller(rt: HostRuntime) -> Result<(), Fail> {
-    let parts = with_controller(rt.alloc(), true, true, &[Op::Raise(PWR)])?;
-    let parts = reading_space(rt.alloc(), parts, 0x5A, field(0, 2040, 8, false))?;
-    let mut board = board_of(rt.alloc(), parts)?;
+    let mut board = fickle_board(rt.alloc())?;
+    controller_rows(&rt, &mut board)
+}
+
+fn controller_rows(rt: &impl Abort, board: &mut Board) -> Result<(), Fail> {
     let closed = [
         ((EC, Deed::Ctl(Effect::Taken)), Begin),
         ((EC, Deed::Ctl(Effect::Calm)), Wire),
         ((POLL, Deed::Step(HostMove::Sc(0x80))), Begin),
     ];
-    assert!(rt; refuses(&board, &closed));
-    follow(
-        &mut board,
-        &[(F0, Deed::Raise(PWR)), (INT, Deed::Claim(PWR))],
-    )?;
-    follow(&mut board, &begins(0, Request::Rd(255)))?;
+    assert!(rt; refuses(board, &closed));
+    follow(board, &[(F0, Deed::Raise(PWR)), (INT, Deed::Claim(PWR))])?;
+    follow(board, &begins(0, Request::Rd(255)))?;
     let opened = [
         ((W0, Deed::Begin(Request::Rd(255))), Begin),
         ((W0, Deed::Begin(Request::Rd(254))), Next),
@@ -165,40 +181,44 @@ fn what_fails_of_the_rows_of_the_controller(rt: HostRuntime) -> Result<(), Fail>
         ((F0, Deed::Take(None)), Begin),
         ((W0, Deed::Take(Some(0x5A))), Wire),
     ];
-    assert!(rt; refuses(&board, &opened));
+    assert!(rt; refuses(board, &opened));
     let moves = [
         (POLL, Deed::Step(HostMove::Sc(0x80))),
         (EC, Deed::Ctl(Effect::Taken)),
         (POLL, Deed::Step(HostMove::Data(255))),
     ];
-    follow(&mut board, &moves)?;
+    follow(board, &moves)?;
     let asked = [
         ((EC, Deed::Ctl(Effect::Out(0x5B))), Wire),
         ((EC, Deed::Ctl(Effect::Put)), Wire),
         ((POLL, Deed::Step(HostMove::Get(0x5A))), Wire),
     ];
-    assert!(rt; refuses(&board, &asked));
-    follow(&mut board, &[(EC, Deed::Ctl(Effect::Out(0x5A)))])?;
-    assert!(rt; refuses(&board, &[((POLL, Deed::Step(HostMove::Get(0x5B))), Wire)]));
-    follow(&mut board, &[(POLL, Deed::Step(HostMove::Get(0x5A)))])?;
+    assert!(rt; refuses(board, &asked));
+    follow(board, &[(EC, Deed::Ctl(Effect::Out(0x5A)))])?;
+    assert!(rt; refuses(board, &[((POLL, Deed::Step(HostMove::Get(0x5B))), Wire)]));
+    follow(board, &[(POLL, Deed::Step(HostMove::Get(0x5A)))])?;
     let taken = [
         ((W0, Deed::Take(Some(0x5B))), Value),
         ((W0, Deed::Take(None)), Value),
         ((W0, Deed::Disown), Next),
         ((INT, Deed::Claim(OWN)), Status),
     ];
-    assert!(rt; refuses(&board, &taken));
+    assert!(rt; refuses(board, &taken));
     Ok(())
 }
 
 #[test]
 fn no_latch_without_a_pulse(rt: HostRuntime) -> Result<(), Fail> {
     let mut board = board_of(rt.alloc(), with_pulses(rt.alloc(), &[GBL])?)?;
-    follow(&mut board, &[(POLL, Deed::Latch(GBL))])?;
+    no_latch(&rt, &mut board)
+}
+
+fn no_latch(rt: &impl Abort, board: &mut Board) -> Result<(), Fail> {
+    follow(board, &[(POLL, Deed::Latch(GBL))])?;
     let cases = [
         ((INT, Deed::Latch(GBL)), Latch),
         ((INT, Deed::Latch(PWR)), Latch),
     ];
-    assert!(rt; refuses(&board, &cases));
+    assert!(rt; refuses(board, &cases));
     Ok(())
 }
