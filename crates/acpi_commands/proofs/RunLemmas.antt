@@ -10,8 +10,9 @@ use Rattle.machine_desc.specs.declared.parts.MachineParts.{MachineParts}
 use Rattle.machine_desc.specs.Machine.{MachineData, described}
 use Rattle.machine_desc.specs.Rules.{first_fault}
 use Rattle.machine_desc.specs.Weight.{weight_of}
-use Rattle.machine_core.specs.Complete.{Complete}
-use Rattle.machine_core.proofs.Once.{reads_last, scripts_once}
+use Rattle.machine_history.specs.Complete.{Complete}
+use Rattle.machine_history.proofs.ActsOnce.{scripts_once}
+use Rattle.machine_history.proofs.Owning.{reads_last}
 use Rattle.machine_reader.specs.declared.fault.ReaderFault.{ReaderFault}
 use Rattle.machine_reader.specs.declared.fault.ReaderFault.TheVariants as fault
 use Rattle.machine_reader.specs.Description.{Describes, IsJson, machine_in, unless_broken, unless_long, unless_misshapen}

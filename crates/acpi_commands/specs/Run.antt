@@ -6,7 +6,9 @@ use Rattle.acpi_io.specs.Sink.{AddsFront}
 use Rattle.acpi_io.specs.Source.{TakesExactly, TakesUpTo}
 use Rattle.acpi_regs.specs.declared.entry.Entry.{Entry}
 use Rattle.machine_desc.specs.Machine.{MachineData}
-use Rattle.machine_core.specs.Complete.{Complete, ReadsLast, ScriptsOnce}
+use Rattle.machine_history.specs.Complete.{Complete}
+use Rattle.machine_history.specs.Exclusion.{ReadsLast}
+use Rattle.machine_history.specs.Once.{ScriptsOnce}
 use Rattle.machine_reader.specs.declared.fault.ReaderFault.{ReaderFault}
 use Rattle.machine_reader.specs.declared.fault.ReaderFault.TheVariants as fault
 use Rattle.machine_reader.specs.Canonical.{canonical}
@@ -30,7 +32,7 @@ ReadsWhole left left' bytes = (length bytes ≤ limit) × Consumes left left' by
 
 -- the text of a machine and its history
 abbrev pub text : MachineData → List Entry → List ℕ
-text m history = log_text (canonical m) history
+text m history = log_text m (canonical m) history
 
 -- What a run stands for: the bytes describe the machine, and this is a complete history of it, in which each script made
 -- its acts once and in order and each read gave the last byte written.

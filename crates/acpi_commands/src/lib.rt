@@ -4,9 +4,8 @@
 //! All of it stands in [`acpi_events`], a call over any source and sink whose contract says what each status means
 //! (`specs/Run.antt`). [`end`] then tells a refusal and gives the exit code (`specs/Ending.antt`). The program's
 //! `main`, which hands these the words and the standard streams, is a crate of its own. The crate stands on
-//! `machine_reader`, which reads descriptions and writes them, on `machine_core`, whose board keeps the history legal,
-//! and on `acpi_io`. Which machines run by now is `specs/Built.antt`. The log's text (`specs/Text.antt`) is a module of
-//! its own.
+//! `machine_reader`, which reads descriptions and writes them, on `machine_core`, whose board keeps the history legal, on
+//! `history_text`, which writes it, and on `acpi_io`. Which machines run by now is `specs/Built.antt`.
 #![tactic(auto)]
 
 mod built;

@@ -1,9 +1,9 @@
 ghost use Rattle.std.specs.Prelude.{◌≡◌, ◌+◌, ◌<◌, ◌≤◌, ◌∷◌, [], ◌++◌, ℕ, false, true, IfSome, None, length, reverse};
 ghost use Rattle.acpi_regs.specs.declared.actor.Actor.{Actor};
 ghost use Rattle.machine_desc.specs.Weight.{weight_of};
-ghost use Rattle.machine_core.specs.Complete.{Complete};
-ghost use Rattle.machine_core.specs.Legal.{Legal};
-ghost use Rattle.machine_core.specs.Scripts.{next_of};
+ghost use Rattle.machine_history.specs.Complete.{Complete};
+ghost use Rattle.machine_history.specs.Legal.{Legal};
+ghost use Rattle.machine_history.specs.Scripts.{next_of};
 ghost use Rattle.acpi_commands.specs.Built.{is_access, is_built};
 
 use acpi_regs::{Actor, Deed, Entry};
@@ -23,6 +23,7 @@ pub fn play(board: &mut Board)
 
 /// Makes an entry for each firmware that has an access next, in their order. Whether there was one.
 fn round(board: &mut Board) -> bool
+    requires { is_built board.old.machine ≡ true }
     ensures machine { board.new.machine ≡ board.old.machine }
     ensures more { result ≡ true → length board.old.entries < length board.new.entries }
     ensures within { length board.new.entries ≤ weight_of board.new.machine }
@@ -44,7 +45,8 @@ fn round(board: &mut Board) -> bool
 
 /// Makes the entry for the next act of a firmware, where that is an access. Whether it did.
 fn step(board: &mut Board, number: u8) -> bool
-    requires { number < length board.old.machine.firmware }
+    requires built { is_built board.old.machine ≡ true }
+    requires number { number < length board.old.machine.firmware }
     ensures machine { board.new.machine ≡ board.old.machine }
     ensures made { result ≡ true → length board.new.entries ≡ length board.old.entries + 1 }
     ensures none { result ≡ false → (board.new ≡ board.old)
@@ -61,7 +63,8 @@ fn step(board: &mut Board, number: u8) -> bool
 
 /// The entry that a firmware makes for its next act, where that is an access.
 fn entry_for(board: &Board, number: u8) -> Option<Entry>
-    requires { number < length board.now.machine.firmware }
+    requires built { is_built board.now.machine ≡ true }
+    requires number { number < length board.now.machine.firmware }
     ensures legal { IfSome result (λ entry. Legal board.now.machine (board.now.entries ++ entry ∷ [])) }
     ensures none { result ≡ None
         → is_access (next_of board.now.machine (reverse board.now.entries) (Actor.Firmware number)) ≡ false }

@@ -2,16 +2,16 @@ ghost use Rattle.std.specs.Prelude.{◌≡◌, ◌≤◌, List, Ok, OnErr, OnOk,
 ghost use Rattle.acpi_regs.specs.declared.entry.Entry.{Entry};
 ghost use Rattle.acpi_io.specs.Faults.{RoseByOne};
 ghost use Rattle.acpi_io.specs.Sink.{WritesAll};
-ghost use Rattle.machine_core.specs.Complete.{Complete};
+ghost use Rattle.machine_history.specs.Complete.{Complete};
 ghost use Rattle.machine_reader.specs.Description.{Describes};
 ghost use Rattle.acpi_commands.specs.Run.{FromBytes, Refuses, status_of, text};
 
 use crate::built::is_built;
-use history_text::write_log;
 use crate::play::play;
 use crate::prepared::Prepared;
 use crate::status::Status;
 use acpi_io::{Sink, WriteFault};
+use history_text::write_log;
 use machine_core::Board;
 use machine_reader::{ReaderFault, read_machine, write_machine};
 use std::alloc::Global;

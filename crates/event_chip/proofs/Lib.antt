@@ -1,3 +1,3 @@
 mod RankBits
-mod Slots
+pub mod Slots
 mod Touches

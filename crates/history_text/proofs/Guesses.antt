@@ -1,5 +1,5 @@
 -- What is guessed from the text of an entry is that entry.
-use Rattle.std.proofs.Common.{◌⊎◌, inl, inr, take_all, ℕ, ◌+◌, ◌*◌, ◌/◌, ◌%◌, ◌^◌, ◌<◌, ◌≤◌, ◌≡◌, ◌==◌, if◌then◌else◌, Bool, true, false, cond, nat_lt, List, [], ◌∷◌, ◌++◌, length, take, drop, decimal, codes, Option, Some, None, refl, sym, ◌∙◌, ap, subst, arith}
+use Rattle.std.proofs.Common.{◌⊎◌, inl, inr, take_all, ℕ, ◌+◌, ◌*◌, ◌/◌, ◌%◌, ◌^◌, ◌<◌, ◌≤◌, ◌≡◌, ◌==◌, Bool, true, false, cond, nat_lt, ◌∷◌, ◌++◌, take, decimal, Some, None, refl, sym, ◌∙◌, ap, arith}
 use Rattle.std.proofs.lemmas.Bool.{ltb-false, ltb-true, eqb-true}
 use Rattle.std.proofs.lemmas.Fmt.{decimal_digit, decimal_is_IsNumeral, length-decimal-le}
 use Rattle.std.specs.Str.Parse.{digits_value}
@@ -8,19 +8,16 @@ use Rattle.acpi_regs.specs.declared.actor.Actor.TheVariants as actor
 use Rattle.acpi_regs.specs.declared.entry.Cell.{Cell}
 use Rattle.acpi_regs.specs.declared.entry.Deed.{Deed}
 use Rattle.acpi_regs.specs.declared.entry.Deed.TheVariants as deed
-use Rattle.acpi_regs.specs.declared.entry.Effect.{Effect}
 use Rattle.acpi_regs.specs.declared.entry.Effect.TheVariants as effect
 use Rattle.acpi_regs.specs.declared.entry.Entry.{Entry}
-use Rattle.acpi_regs.specs.declared.entry.HostMove.{HostMove}
 use Rattle.acpi_regs.specs.declared.entry.HostMove.TheVariants as host
-use Rattle.acpi_regs.specs.declared.entry.Request.{Request}
 use Rattle.acpi_regs.specs.declared.entry.Request.TheVariants as request
 use Rattle.acpi_regs.specs.declared.event.Event.{Event}
 use Rattle.acpi_regs.specs.declared.event.Event.TheVariants as event
 use Rattle.acpi_regs.specs.declared.event.Fixed.TheVariants as fixed
-use Rattle.history_text.specs.Guess.{byte_guess, cell_guess, deed_guess, digit_guess, entry_guess, event_guess, job_guess}
+use Rattle.history_text.specs.Guess.{deed_guess, digit_guess, entry_guess, event_guess}
 use Rattle.history_text.specs.Named.{IsActor, IsDeed, IsEntry, IsEvent, OneEntry}
-use Rattle.history_text.specs.Text.{actor_text, byte_text, deed_text, digit_text, entry_text, event_text}
+use Rattle.history_text.specs.Text.{actor_text, deed_text, digit_text, entry_text, event_text}
 
 -- ---- digits and bytes
 
@@ -44,6 +41,7 @@ apart d c small out = by_same (digit_text d == c) refl
     within : (b : Bool) → nat_lt d 10 ≡ b → (48 ≤ cond b (48 + d) (55 + d)) × (cond b (48 + d) (55 + d) ≤ 70)
     within true below = let few : d < 10 = ltb-true d 10 below in (omega arith, omega arith)
     within false below = let many : 10 ≤ d = ltb-false d 10 below in (omega arith, omega arith)
+
     by_same : (b : Bool) → (digit_text d == c) ≡ b → b ≡ false
     by_same false same = refl
     by_same true same = let is : digit_text d ≡ c = eqb-true _ _ same in let bounds = within (nat_lt d 10) refl in absurd (outside (digit_text d) c is bounds.0 bounds.1 out)

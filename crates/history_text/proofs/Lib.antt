@@ -1,2 +1,3 @@
 mod Guesses
+mod Parked
 pub mod Writing

@@ -14,7 +14,6 @@ use Rattle.acpi_regs.specs.declared.entry.Request.{Request}
 use Rattle.acpi_regs.specs.declared.entry.Request.TheVariants as request
 use Rattle.acpi_regs.specs.declared.event.Event.{Event}
 use Rattle.acpi_regs.specs.declared.event.Event.TheVariants as event
-use Rattle.acpi_regs.specs.declared.event.Fixed.TheVariants as fixed
 use Rattle.history_text.specs.Text.{entry_text}
 
 abbrev pub IsByte : ℕ → Type 0

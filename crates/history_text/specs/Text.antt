@@ -1,5 +1,5 @@
 -- The text of a log's lines, each without its newline.
-use Rattle.std.specs.Prelude.{ℕ, length, ◌+◌, ◌/◌, ◌%◌, nat_lt, if◌then◌else◌, Bool, true, false, List, [], ◌∷◌, ◌++◌, codes, decimal, Option, Some, None}
+use Rattle.std.specs.Prelude.{ℕ, length, reverse, ◌+◌, ◌/◌, ◌%◌, nat_lt, if◌then◌else◌, true, false, List, [], ◌∷◌, ◌++◌, codes, decimal, Some, None}
 use Rattle.acpi_regs.specs.declared.actor.Actor.{Actor}
 use Rattle.acpi_regs.specs.declared.actor.Actor.TheVariants as actor
 use Rattle.acpi_regs.specs.declared.entry.Cell.{Cell}
@@ -15,6 +15,9 @@ use Rattle.acpi_regs.specs.declared.entry.Request.TheVariants as request
 use Rattle.acpi_regs.specs.declared.event.Event.{Event}
 use Rattle.acpi_regs.specs.declared.event.Event.TheVariants as event
 use Rattle.acpi_regs.specs.declared.event.Fixed.TheVariants as fixed
+use Rattle.acpi_regs.specs.Core.{events_of}
+use Rattle.machine_desc.specs.Machine.{MachineData}
+use Rattle.machine_history.specs.Events.{parked}
 
 -- a hexadecimal digit, of 0 to 9 and A to F
 abbrev pub digit_text : ℕ → ℕ
@@ -131,6 +134,14 @@ rest_line n = rest_text n ++ 10 ∷ []
 abbrev pub machine_line : List ℕ → List ℕ
 machine_line canonical = codes "machine " ++ (canonical ++ 10 ∷ [])
 
--- the whole log of a history without parked events
-abbrev pub log_text : List ℕ → List Entry → List ℕ
-log_text canonical entries = machine_line canonical ++ (entry_lines entries ++ rest_line (length entries))
+-- the events that are parked at the end, in the order in which events are served
+abbrev pub stuck : MachineData → List Entry → List Event
+stuck m history = events_of (parked m (reverse history))
+
+-- what stands behind the lines of the entries
+abbrev pub last_lines : MachineData → List Entry → List ℕ
+last_lines m history = stuck_lines (stuck m history) ++ rest_line (length history)
+
+-- the log of a machine with this canonical text
+abbrev pub log_text : MachineData → List ℕ → List Entry → List ℕ
+log_text m canonical history = machine_line canonical ++ (entry_lines history ++ last_lines m history)

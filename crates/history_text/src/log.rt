@@ -1,16 +1,19 @@
-ghost use Rattle.std.specs.Prelude.{◌≡◌, ◌≤◌, ◌++◌, OnErr, OnOk};
+ghost use Rattle.std.specs.Prelude.{◌≡◌, ◌<◌, ◌≤◌, ◌++◌, reverse, OnErr, OnOk};
 ghost use Rattle.acpi_io.specs.Faults.{RoseByOne};
+ghost use Rattle.acpi_regs.specs.Core.{event_at, if_in};
+ghost use Rattle.machine_history.specs.Events.{parked};
 ghost use Rattle.acpi_io.specs.Sink.{WritesAll};
-ghost use Rattle.history_text.specs.Text.{entry_lines, log_text, machine_line};
+ghost use Rattle.history_text.specs.Text.{entry_lines, log_text, machine_line, stuck, stuck_lines};
 ghost use Rattle.history_text.specs.Written.{GoesOn};
 
-use crate::line::{line_of_entry, line_of_rest};
+use crate::line::{line_of_entry, line_of_rest, line_of_stuck};
 use crate::pieces::Pieces;
 use acpi_io::{Sink, WriteFault};
+use acpi_regs::{Event, Fixed};
 use machine_core::Board;
 
-/// Writes the log of a board: the line of the machine, around its canonical text, then a line for each entry, and
-/// the line with their number. It takes no memory.
+/// Writes the log of a board: the line of the machine, around its canonical text, then a line for each entry, one for
+/// each event that is parked at the end, and the line with the number of entries. It takes no memory.
 ///
 /// Answers `WriteFault` where a write failed; the sink has then taken a front of the text.
 pub fn write_log<K: Sink>(
@@ -19,7 +22,7 @@ pub fn write_log<K: Sink>(
     sink: &mut K,
 ) -> Result<(), WriteFault>
     ensures ends { WritesAll (K.held sink.old) (K.held sink.new)
-        (log_text machine_text.now board.now.entries) result }
+        (log_text board.now.machine machine_text.now board.now.entries) result }
     ensures later { K.faults sink.old ≤ K.faults sink.new }
     ensures cause { OnErr result (RoseByOne (K.faults sink.old) (K.faults sink.new)) }
     ensures told { OnOk result (K.faults sink.new ≡ K.faults sink.old) }
@@ -27,6 +30,7 @@ pub fn write_log<K: Sink>(
     let mut pieces = Pieces::new();
     put_machine(&mut pieces, sink, machine_text)?;
     put_entries(&mut pieces, sink, board)?;
+    put_parked(&mut pieces, sink, board)?;
     pieces.put(sink, line_of_rest(board.len()).as_slice())?;
     pieces.finish(sink)
 }
@@ -60,4 +64,56 @@ fn put_entries<K: Sink>(pieces: &mut Pieces, sink: &mut K, board: &Board) -> Res
         pieces.put(sink, line_of_entry(&board.entry(i)).as_slice())?;
     }
     Ok(())
+}
+
+/// How many events there are: the fixed ones, and 256 GPEs.
+const EVENTS: u16 = 261;
+
+/// Puts a line for each event that is parked behind what waits.
+fn put_parked<K: Sink>(pieces: &mut Pieces, sink: &mut K, board: &Board) -> Result<(), WriteFault>
+    ensures goes_on { GoesOn (K.held sink.old) (K.held sink.new)
+        (pieces.old ++ stuck_lines (stuck board.now.machine board.now.entries)) pieces.new result }
+    ensures later { K.faults sink.old ≤ K.faults sink.new }
+    ensures cause { OnErr result (RoseByOne (K.faults sink.old) (K.faults sink.new)) }
+    ensures told { OnOk result (K.faults sink.new ≡ K.faults sink.old) }
+{
+    for place in 0..EVENTS {
+        put_if_parked(pieces, sink, board, event_at(place))?;
+    }
+    Ok(())
+}
+
+/// Puts the line of an event behind what waits, where it is parked.
+fn put_if_parked<K: Sink>(
+    pieces: &mut Pieces,
+    sink: &mut K,
+    board: &Board,
+    event: Event,
+) -> Result<(), WriteFault>
+    ensures goes_on { GoesOn (K.held sink.old) (K.held sink.new)
+        (pieces.old ++ stuck_lines (if_in (parked board.now.machine (reverse board.now.entries)) event)) pieces.new result }
+    ensures later { K.faults sink.old ≤ K.faults sink.new }
+    ensures cause { OnErr result (RoseByOne (K.faults sink.old) (K.faults sink.new)) }
+    ensures told { OnOk result (K.faults sink.new ≡ K.faults sink.old) }
+{
+    if board.parked(event) {
+        pieces.put(sink, line_of_stuck(event).as_slice())
+    } else {
+        Ok(())
+    }
+}
+
+/// The event at a place in the order in which events are served.
+fn event_at(place: u16) -> Event
+    requires { place < 261 }
+    ensures { result ≡ event_at place }
+{
+    match place {
+        0 => Event::Fixed(Fixed::Tmr),
+        1 => Event::Fixed(Fixed::Gbl),
+        2 => Event::Fixed(Fixed::Pwr),
+        3 => Event::Fixed(Fixed::Slp),
+        4 => Event::Fixed(Fixed::Rtc),
+        _ => Event::Gpe((place - 5) as u8),
+    }
 }

@@ -1,49 +1,46 @@
--- What a board keeps stays true when an allowed entry is appended.
-use Rattle.std.proofs.Common.{ℕ, zero, suc, get_or, ◌<◌, ◌≤◌, ◌≡◌, Bool, true, false, cond, List, [], ◌∷◌, ◌++◌, length, map, reverse, slice_get, unwrap_or, Option, Some, None, MatchOption, is_some, refl, sym, ap, ◌∙◌, subst, arith}
-use Rattle.std.proofs.lemmas.List.{length-append, reverse-append}
+-- What the board keeps is what the past says: at the start, and when an allowed entry is appended.
+use Rattle.std.proofs.Common.{ℕ, zero, suc, ◌+◌, ◌-◌, ◌<◌, ◌≤◌, ◌≡◌, ◌⊎◌, inl, inr, ◌&&◌, not, Bool, true, false, cond, nat_lt, get_or, List, [], ◌∷◌, ◌++◌, length, map, reverse, slice_get, slice_index, unwrap_or, Option, Some, None, refl, sym, ◌∙◌, ap, subst, arith, length-append}
+use Rattle.std.proofs.lemmas.Bool.{and_parts, ltb-true}
+use Rattle.std.proofs.lemmas.List.{reverse-append, length-reverse}
+use Rattle.acpi_regs.specs.declared.actor.Actor.{Actor}
 use Rattle.acpi_regs.specs.declared.actor.Actor.TheVariants as actor
 use Rattle.acpi_regs.specs.declared.entry.Cell.{Cell}
 use Rattle.acpi_regs.specs.declared.entry.Entry.{Entry}
-use Rattle.acpi_regs.specs.Actor.{same_actor}
-use Rattle.field_units.specs.Field.{RegionData}
-use Rattle.handler_script.specs.declared.cursor.Cursor.{Cursor}
-use Rattle.handler_script.specs.Acts.{brings}
-use Rattle.handler_script.specs.Plan.{Plan, next_act, plan_after}
-use Rattle.machine_desc.specs.Machine.{MachineData}
+use Rattle.acpi_regs.specs.declared.event.Event.{Event}
+use Rattle.event_chip.specs.declared.state.Slot.{Slot}
+use Rattle.event_chip.specs.declared.state.Touch.{Touch}
+use Rattle.event_chip.specs.Chip.{slot_of, touched}
+use Rattle.field_units.specs.Field.{RegionData, is_controller}
 use Rattle.machine_desc.specs.Kept.{IsMachine}
+use Rattle.machine_desc.specs.Machine.{MachineData}
 use Rattle.machine_desc.specs.Weight.{weight_of}
-use Rattle.machine_core.specs.Board.{IsKept, Passing, Stand, left_by, left_of}
-use Rattle.machine_core.specs.Cells.{IsIn, byte_at, byte_in, cells_in, first_bytes}
-use Rattle.machine_core.specs.Legal.{Allowed, Legal, LegalPast}
-use Rattle.machine_core.specs.Scripts.{answer_of, byte_answered, first_left, left_after, plan_left}
-use Rattle.machine_core.specs.Values.{deed_access, value_after}
-use Rattle.machine_core.proofs.Room.{weight_bounds}
-use Rattle.machine_core.proofs.Steps.{Passes, allowed_passes}
+use Rattle.machine_core.specs.declared.actors.Actors.{Actors}
+use Rattle.machine_core.specs.declared.events.Events.{Events}
+use Rattle.machine_core.specs.declared.jobs.Jobs.{Jobs}
+use Rattle.machine_core.specs.declared.lock.LockState.{LockState}
+use Rattle.machine_core.specs.Actors.{FitsDeed, IsActors, Moves, seat, state_of}
+use Rattle.machine_core.specs.Board.{IsKept}
+use Rattle.machine_core.specs.Cells.{IsCells, IsIn, byte_in, bytes_in, first_bytes, kept_bytes}
+use Rattle.machine_core.specs.Events.{IsEvent, IsEvents, unlatched_after, unlatched_of}
+use Rattle.machine_core.specs.Lock.{lock_after, lock_of}
+use Rattle.machine_core.specs.Wire.{IsWire, Takes, WireData, wire_after}
+use Rattle.machine_core.proofs.Standing.{fits_deed}
+use Rattle.machine_core.proofs.Steps.{actors_step, cells_step, events_step, jobs_step, jobs_within, starts_within}
+use Rattle.machine_history.proofs.Whole.{weight_bounds}
+use Rattle.machine_core.proofs.WireRows.{wire_needs}
+use Rattle.machine_core.proofs.WireSteps.{wire_step, wire_takes}
+use Rattle.machine_history.specs.declared.parts.Touched.{Touched}
+use Rattle.machine_history.specs.Acts.{is_memory, is_memory_cell}
+use Rattle.machine_history.specs.Cells.{byte_at, cells_in}
+use Rattle.machine_history.specs.Events as events
+use Rattle.machine_history.specs.Jobs.{and_job, jobs, made, starts_after}
+use Rattle.machine_history.specs.Legal.{Allowed, Legal, LegalPast}
+use Rattle.machine_history.specs.Machine.{first_slot_of, kind_of}
+use Rattle.machine_history.specs.Values.{deed_access}
 
 -- the newest entry of a history is allowed
 pub newest_allowed : (m : MachineData) (entries : List Entry) (e : Entry) → Legal m (entries ++ e ∷ []) → Allowed m (reverse entries) e
 newest_allowed m entries e legal = (subst (LegalPast m) (reverse-append entries (e ∷ [])) legal).0
-
--- an entry that is allowed passes the act that a cursor has next
-pub passing : (m : MachineData) (entries : List Entry) (cells : List (List ℕ)) (cursors : List Cursor) (room : ℕ) (e : Entry) → IsKept m entries cells cursors room → Allowed m (reverse entries) e → Passing m cursors e.actor e.deed
-passing m entries cells cursors room e kept allowed =
-    let p = allowed_passes m (reverse entries) e.actor e.deed allowed in
-    let j = p.firmware.number in
-    let here : left_of m cursors j ≡ plan_left m (reverse entries) e.actor = kept.left_are j p.firmware.below ∙ ap (plan_left m (reverse entries)) (sym p.firmware.is) in
-    let next : next_act (left_of m cursors j) ≡ Some p.does = ap next_act (here ∙ p.is) in
-    subst (λ a. Passing m cursors a e.deed) (sym p.firmware.is)
-    (p.firmware.below, subst (λ o. MatchOption o ⊥ (λ a. is_some (byte_answered e.deed) ≡ brings a)) (sym next) p.brought)
-
--- what is left by an entry is what the definition says
-left_is : (m : MachineData) (past : List Entry) (e : Entry) → Passes m past e.actor e.deed → (k : ℕ) (p : Plan) → p ≡ plan_left m past (actor.Firmware k) → left_by e k p ≡ plan_left m (e ∷ past) (actor.Firmware k)
-left_is m past e p k q is = by_actor (same_actor (actor.Firmware k) e.actor)
-  where
-    after_is : plan_after (unwrap_or (byte_answered e.deed) 0) q ≡ left_after e.deed (plan_left m past (actor.Firmware k))
-    after_is = rw (p.passing, p.answer) (ap (plan_after (answer_of e.deed)) is)
-
-    by_actor : (b : Bool) → cond b (plan_after (unwrap_or (byte_answered e.deed) 0) q) q ≡ cond b (left_after e.deed (plan_left m past (actor.Firmware k))) (plan_left m past (actor.Firmware k))
-    by_actor true = after_is
-    by_actor false = is
 
 -- there is room for an entry that is allowed
 pub room_for : (m : MachineData) (entries : List Entry) (e : Entry) → IsMachine m → Legal m (entries ++ e ∷ []) → length entries < weight_of m
@@ -52,25 +49,69 @@ room_for m entries e ok legal =
     let size = length-append entries (e ∷ []) in
     omega arith
 
-pub kept_after : (m : MachineData) (entries : List Entry) (cells cells' : List (List ℕ)) (cursors cursors' : List Cursor) (room : ℕ) (e : Entry) → IsKept m entries cells cursors room → Legal m (entries ++ e ∷ [])
-    → ((c : Cell) → IsIn cells c → byte_in cells' c ≡ value_after c (deed_access e.actor e.deed) (byte_in cells c))
-    → ((c : Cell) → IsIn cells c → IsIn cells' c)
-    → Stand m cursors'
-    → ((k : ℕ) → left_of m cursors' k ≡ left_by e k (left_of m cursors k))
-    → IsKept m (entries ++ e ∷ []) cells' cursors' room
-kept_after m entries cells cells' cursors cursors' room e kept legal values stay stand left =
+-- what the calls of `apply` ask
+pub record IsReady (m : MachineData) (entries : List Entry) (e : Entry) (actors : Actors) (jobs_kept : Jobs) (wire : WireData) (room jobs_room : ℕ) : Type 0 where
+  pub fits : FitsDeed m (state_of actors.states e.actor).course e.deed
+  pub jobs_left : length jobs_kept.made.items < jobs_room
+  pub starts_left : jobs_kept.starts + 1 < 2147483648
+  pub wire_takes : Takes e.deed wire
+  pub room_left : length entries < room
+
+pub ready : (m : MachineData) (entries : List Entry) (e : Entry) (lock : LockState) (events : Events) (actors : Actors) (jobs_kept : Jobs) (wire : WireData) (cells : List (List ℕ)) (room jobs_room : ℕ) → IsMachine m → IsKept m entries lock events actors jobs_kept wire cells room jobs_room → Legal m (entries ++ e ∷ []) → IsReady m entries e actors jobs_kept wire room jobs_room
+ready m entries e lock events actors jobs_kept wire cells room jobs_room ok kept legal =
+    let past = reverse entries in
     let allowed = newest_allowed m entries e legal in
-    let p = allowed_passes m (reverse entries) e.actor e.deed allowed in
-    let newest : reverse (entries ++ e ∷ []) ≡ e ∷ reverse entries = reverse-append entries (e ∷ []) in
+    let within = room_for m entries e ok legal in
+    let size : length past ≡ length entries = length-reverse entries in
+    let few = ap length kept.jobs_are.made_are in
+    let most = jobs_within m past in
+    let started = starts_within past in
+    let count = kept.jobs_are.starts_are in
+    let small = kept.small in
+    let here = kept.room_left in
+    let there = kept.jobs_left in
+    let wires : length past < wire.chip.room = let w = kept.wire_is.room_left in omega arith in
+    record {
+      fits = fits_deed m past e.actor e.deed (state_of actors.states e.actor).course kept.legal allowed (kept.actors_are.each e.actor).left_is (kept.actors_are.each e.actor).stands;
+      jobs_left = omega arith;
+      starts_left = omega arith;
+      wire_takes = wire_takes m past e.deed wire kept.wire_is (wire_needs m ok past e.actor e.deed wire allowed wires);
+      room_left = omega arith;
+    }
+
+pub kept_after : (m : MachineData) (entries : List Entry) (e : Entry) (lock lock' : LockState) (events events' : Events) (actors actors' : Actors) (jobs_kept jobs' : Jobs) (wire wire' : WireData) (cells cells' : List (List ℕ)) (room jobs_room : ℕ)
+    → IsMachine m → IsKept m entries lock events actors jobs_kept wire cells room jobs_room → Legal m (entries ++ e ∷ [])
+    → lock' ≡ lock_after e.actor e.deed lock
+    → IsEvents m (e ∷ reverse entries) events'
+    → IsActors m (e ∷ reverse entries) actors'
+    → jobs'.made.items ≡ and_job jobs_kept.made.items (made m (reverse entries) e)
+    → jobs'.starts ≡ starts_after e.deed jobs_kept.starts
+    → wire' ≡ wire_after m e.actor e.deed wire
+    → IsCells m (e ∷ reverse entries) cells'
+    → IsKept m (entries ++ e ∷ []) lock' events' actors' jobs' wire' cells' room jobs_room
+kept_after m entries e lock lock' events events' actors actors' jobs_kept jobs' wire wire' cells cells' room jobs_room ok kept legal lock_is events_are actors_are made_are starts_are wire_is cells_are =
+    let past = reverse entries in
+    let allowed = newest_allowed m entries e legal in
+    let within = room_for m entries e ok legal in
+    let size : length past ≡ length entries = length-reverse entries in
+    let wires : length past < wire.chip.room = let w = kept.wire_is.room_left in omega arith in
+    let newest : e ∷ past ≡ reverse (entries ++ e ∷ []) = sym (reverse-append entries (e ∷ [])) in
     record {
       legal = legal;
-      cells_in = λ c is. stay c (kept.cells_in c is);
-      cells_are = λ c is. rw newest (values c (kept.cells_in c is) ∙ ap (value_after c (deed_access e.actor e.deed)) (kept.cells_are c is));
-      stand = stand;
-      left_are = λ k below. rw newest (left k ∙ left_is m (reverse entries) e p k (left_of m cursors k) (kept.left_are k below));
+      lock_is = subst (λ p. lock' ≡ lock_of p) newest (lock_is ∙ ap (lock_after e.actor e.deed) kept.lock_is);
+      events_are = subst (λ p. IsEvents m p events') newest events_are;
+      actors_are = subst (λ p. IsActors m p actors') newest actors_are;
+      jobs_are = subst (λ p. Rattle.machine_core.specs.Jobs.IsJobs m p jobs') newest (jobs_step m past e.actor e.deed jobs_kept jobs' kept.jobs_are made_are starts_are);
+      wire_is = subst (λ p. IsWire m p wire') newest (subst (IsWire m (e ∷ past)) (sym wire_is) (wire_step m past e.actor e.deed wire kept.wire_is (wire_needs m ok past e.actor e.deed wire allowed wires)));
+      cells_are = subst (λ p. IsCells m p cells') newest cells_are;
       room_left = kept.room_left;
+      jobs_left = kept.jobs_left;
       small = kept.small;
     }
+
+-- the same, where the parts have other names
+pub kept_as : (m : MachineData) (entries entries' : List Entry) (lock : LockState) (events : Events) (actors : Actors) (jobs_kept : Jobs) (wire : WireData) (cells : List (List ℕ)) (room room' jobs_room jobs_room' : ℕ) → entries' ≡ entries → room' ≡ room → jobs_room' ≡ jobs_room → IsKept m entries lock events actors jobs_kept wire cells room jobs_room → IsKept m entries' lock events actors jobs_kept wire cells room' jobs_room'
+kept_as m entries entries' lock events actors jobs_kept wire cells room room' jobs_room jobs_room' one two three kept = rw (one, two, three) kept
 
 -- ---- at the start
 
@@ -78,26 +119,55 @@ abbrev cells_of : Option RegionData → List ℕ
 cells_of None = []
 cells_of (Some region) = region.cells
 
-bytes_are : (regions : List RegionData) (r : ℕ) → unwrap_or (slice_get (map (λ region. region.cells) regions) r) [] ≡ cells_of (slice_get regions r)
-bytes_are [] r = refl
-bytes_are (region ∷ regions) zero = refl
-bytes_are (region ∷ regions) (suc r) = bytes_are regions r
+in_memory : (k : Bool) (r : RegionData) → is_controller r.kind ≡ k → not k ≡ true → kept_bytes r ≡ r.cells
+in_memory true r is plain = cc
+in_memory false r is plain = rw is refl
 
-in_region : (o : Option RegionData) (offset : ℕ) → offset < cells_in o → offset < length (cells_of o)
-in_region None offset is = is
-in_region (Some region) offset is = is
+bytes_are : (regions : List RegionData) (r : ℕ) → is_memory (slice_get regions r) ≡ true → unwrap_or (slice_get (map kept_bytes regions) r) [] ≡ cells_of (slice_get regions r)
+bytes_are [] r plain = cc
+bytes_are (region ∷ regions) zero plain = in_memory (is_controller region.kind) region refl plain
+bytes_are (region ∷ regions) (suc r) plain = bytes_are regions r plain
+
+in_region : (o : Option RegionData) (offset : ℕ) → nat_lt offset (cells_in o) ≡ true → offset < length (cells_of o)
+in_region None offset is = ltb-true offset 0 is
+in_region (Some region) offset is = ltb-true offset (length region.cells) is
 
 byte_of : (o : Option RegionData) (offset : ℕ) → get_or (cells_of o) offset 0 ≡ byte_at o offset
 byte_of None offset = refl
 byte_of (Some region) offset = refl
 
-pub kept_at_first : (m : MachineData) (cursors : List Cursor) (room : ℕ) → Stand m cursors → ((k : ℕ) → k < length m.firmware → left_of m cursors k ≡ first_left m k) → weight_of m ≤ room → room < 4294967296 → IsKept m [] (first_bytes m) cursors room
-kept_at_first m cursors room stand left room_left small = record {
+pub first_cells : (m : MachineData) → IsCells m [] (first_bytes m)
+first_cells m = record {
+  within = λ c plain. let parts = and_parts _ _ plain in rw (bytes_are m.regions c.region parts.0) (in_region (slice_get m.regions c.region) c.offset parts.1);
+  are = λ c plain. let parts = and_parts _ _ plain in rw (bytes_are m.regions c.region parts.0) (byte_of (slice_get m.regions c.region) c.offset);
+}
+
+pub first_kept : (m : MachineData) (lock : LockState) (events : Events) (actors : Actors) (jobs_kept : Jobs) (wire : WireData) (cells : List (List ℕ)) (room jobs_room : ℕ) → IsMachine m → weight_of m ≤ 1048576
+    → lock ≡ lock_of [] → IsEvents m [] events → ((x : MachineData) → IsMachine x → IsActors x [] actors) → jobs_kept.made.items ≡ [] → jobs_kept.starts ≡ 0 → IsWire m [] wire → cells ≡ first_bytes m → weight_of m ≤ room → weight_of m ≤ jobs_room
+    → IsKept m [] lock events actors jobs_kept wire cells room jobs_room
+first_kept m lock events actors jobs_kept wire cells room jobs_room ok small lock_is events_are actors_are made_are starts_are wire_is cells_is room_left jobs_left = record {
   legal = tt;
-  cells_in = λ c is. rw (bytes_are m.regions c.region) (in_region (slice_get m.regions c.region) c.offset is);
-  cells_are = λ c is. rw (bytes_are m.regions c.region) (byte_of (slice_get m.regions c.region) c.offset);
-  stand = stand;
-  left_are = left;
+  lock_is = lock_is;
+  events_are = events_are;
+  actors_are = actors_are m ok;
+  jobs_are = record { made_are = made_are; starts_are = starts_are };
+  wire_is = wire_is;
+  cells_are = subst (IsCells m []) (sym cells_is) (first_cells m);
   room_left = room_left;
+  jobs_left = jobs_left;
   small = small;
 }
+
+-- ---- what a machine knows of an event stays
+
+kind_after : (b : Bool) (t : Touch) (s : Slot) → (cond b (touched t s) s).kind ≡ s.kind
+kind_after true t s = refl
+kind_after false t s = refl
+
+kind_kept : (n : Event) (t : Option Touched) (s : Slot) → (events.slot_after n t s).kind ≡ s.kind
+kind_kept n None s = refl
+kind_kept n (Some t) s = kind_after (Rattle.acpi_regs.specs.Event.same_event t.event n) t.by s
+
+pub kind_is : (m : MachineData) (past : List Entry) (n : Event) → (events.slot m past n).kind ≡ kind_of m n
+kind_is m [] n = refl
+kind_is m (e ∷ past) n = kind_kept n (events.touched m past e) (events.slot m past n) ∙ kind_is m past n

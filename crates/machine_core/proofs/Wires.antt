@@ -10,6 +10,7 @@ use Rattle.ec_driver.specs.Wire.{carried, fill, wire}
 use Rattle.machine_desc.specs.Machine.{MachineData}
 use Rattle.machine_desc.specs.Weight.{weight_of}
 use Rattle.machine_core.specs.declared.wire.Begun.{Begun}
+use Rattle.machine_core.specs.Board.{opener_of}
 use Rattle.machine_core.specs.Wire.{AreInStep, IsAt, IsBegun, IsSpace, IsWire, WireData, asks_code_in, asks_of, driver_at, effect_in_turn, finished_in, host_in, requester_of}
 use Rattle.machine_core.proofs.WirePlaces.{chip_at, filled, next_at, tells}
 use Rattle.machine_history.specs.Machine.{space}
@@ -27,17 +28,13 @@ fill_is m past c request.Be within cells queue = refl
 fill_is m past c request.Bd within cells queue = refl
 fill_is m past c request.Qr within cells queue = ap Rattle.ec_chip.specs.Parts.first_code queue
 
--- who opened a transaction, and for what
-abbrev pub by_of : Option Open → Option Actor
-by_of None = None
-by_of (Some o) = Some o.by
-
+-- what the open transaction asks
 abbrev pub asks_in : Option Open → Option Request
 asks_in None = None
 asks_in (Some o) = Some o.asks
 
 pub record Told (m : MachineData) (past : List Entry) (w : WireData) (x : Option Begun) (o : Option Open) : Type 0 where
-  pub requester : requester_of x ≡ by_of o
+  pub requester : requester_of x ≡ opener_of o
   pub asks : asks_of x ≡ asks_in o
   pub code : asks_code_in x ≡ asks_code o
   pub host : host_in x w.chip ≡ host_of (next_in m past o)

@@ -1,58 +1,66 @@
 -- A board as contracts see it, and what it keeps beside its journal.
-use Rattle.std.specs.Prelude.{◌≡◌, ◌≤◌, ◌<◌, ◌^◌, ℕ, Bool, true, false, List, length, reverse, slice_get, Option, Some, None, MatchOption, is_some, unwrap_or, if◌then◌else◌}
+use Rattle.std.specs.Prelude.{◌≡◌, ◌≤◌, ◌<◌, ◌^◌, ℕ, Bool, true, false, List, reverse, Option, Some, None}
 use Rattle.acpi_regs.specs.declared.actor.Actor.{Actor}
-use Rattle.acpi_regs.specs.declared.actor.Actor.TheVariants as actor
-use Rattle.acpi_regs.specs.declared.entry.Cell.{Cell}
-use Rattle.acpi_regs.specs.declared.entry.Deed.{Deed}
+use Rattle.acpi_regs.specs.declared.actor.Side.{Side}
+use Rattle.acpi_regs.specs.declared.entry.Effect.{Effect}
 use Rattle.acpi_regs.specs.declared.entry.Entry.{Entry}
-use Rattle.acpi_regs.specs.Actor.{same_actor}
-use Rattle.handler_script.specs.declared.cursor.Cursor.{Cursor}
-use Rattle.handler_script.specs.Acts.{brings}
-use Rattle.handler_script.specs.Left.{left, stands}
-use Rattle.handler_script.specs.Plan.{End, Plan, next_act, plan_after}
+use Rattle.acpi_regs.specs.declared.entry.HostMove.{HostMove}
+use Rattle.acpi_regs.specs.declared.event.Event.{Event}
+use Rattle.acpi_regs.specs.Event.{event_rank}
+use Rattle.acpi_regs.specs.Lock.{owner, seeker}
 use Rattle.machine_desc.specs.Machine.{MachineData}
 use Rattle.machine_desc.specs.Weight.{weight_of}
-use Rattle.machine_core.specs.Cells.{IsCell, IsIn, byte_in}
-use Rattle.machine_core.specs.Legal.{LegalPast}
-use Rattle.machine_core.specs.Scripts.{byte_answered, plan_left, script_of}
-use Rattle.machine_core.specs.Values.{value}
+use Rattle.machine_history.specs.Events.{pending}
+use Rattle.machine_history.specs.Legal.{LegalPast, same_effect, same_host}
+use Rattle.machine_history.specs.Wire.{Open}
+use Rattle.machine_core.specs.declared.actors.Actors.{Actors}
+use Rattle.machine_core.specs.declared.events.Events.{Events}
+use Rattle.machine_core.specs.declared.jobs.Jobs.{Jobs}
+use Rattle.machine_core.specs.declared.lock.LockState.{LockState}
+use Rattle.machine_core.specs.Actors.{IsActors}
+use Rattle.machine_core.specs.Cells.{IsCells}
+use Rattle.machine_core.specs.Events.{IsEvents}
+use Rattle.machine_core.specs.Jobs.{IsJobs}
+use Rattle.machine_core.specs.Lock.{lock_of}
+use Rattle.machine_core.specs.Wire.{IsWire, WireData}
 
 pub record BoardData : Type 0 where
   pub machine : MachineData
   pub entries : List Entry
 
--- what is left of a script where a cursor stands in it
-abbrev pub left_in : MachineData → ℕ → Option Cursor → Plan
-left_in m k None = End
-left_in m k (Some c) = left m.fields (script_of m k) c
+-- who asked for the open transaction
+abbrev pub opener_of : Option Open → Option Actor
+opener_of None = None
+opener_of (Some o) = Some o.by
 
--- what is left of each firmware script, by its cursor
-abbrev pub left_of : MachineData → List Cursor → ℕ → Plan
-left_of m cursors k = left_in m k (slice_get cursors k)
-
-abbrev pub stands_in : MachineData → ℕ → Option Cursor → Bool
-stands_in m k None = false
-stands_in m k (Some c) = stands m.fields (script_of m k) c
-
--- each firmware script has a cursor, and an act can stand where it is
-abbrev pub Stand : MachineData → List Cursor → Type 0
-Stand m cursors = (k : ℕ) → k < length m.firmware → stands_in m k (slice_get cursors k) ≡ true
-
--- the entry passes the next act of a firmware's script
-abbrev pub Passing : MachineData → List Cursor → Actor → Deed → Type 0
-Passing m cursors (actor.Firmware k) d = (k < length m.firmware) × MatchOption (next_act (left_of m cursors k)) ⊥ (λ a. is_some (byte_answered d) ≡ brings a)
-Passing m cursors _ d = ⊥
-
--- what is left of a firmware's script after it
-abbrev pub left_by : Entry → ℕ → Plan → Plan
-left_by e k p = if same_actor (actor.Firmware k) e.actor then plan_after (unwrap_or (byte_answered e.deed) 0) p else p
-
--- what a board keeps is what the definitions find by looking back, and there is room for the entries to come
-pub record IsKept (m : MachineData) (entries : List Entry) (cells : List (List ℕ)) (cursors : List Cursor) (room : ℕ) : Type 0 where
+-- Beside its journal the board keeps what the definitions find by looking back, one line a subject. The journal is legal, and
+-- there is room for the entries and the jobs to come.
+pub record IsKept (m : MachineData) (entries : List Entry) (lock : LockState) (events : Events) (actors : Actors) (jobs : Jobs) (wire : WireData) (cells : List (List ℕ)) (room jobs_room : ℕ) : Type 0 where
   pub legal : LegalPast m (reverse entries)
-  pub cells_in : (c : Cell) → IsCell m c → IsIn cells c
-  pub cells_are : (c : Cell) → IsCell m c → byte_in cells c ≡ value m (reverse entries) c
-  pub stand : Stand m cursors
-  pub left_are : (k : ℕ) → k < length m.firmware → left_of m cursors k ≡ plan_left m (reverse entries) (actor.Firmware k)
+  pub lock_is : lock ≡ lock_of (reverse entries)
+  pub events_are : IsEvents m (reverse entries) events
+  pub actors_are : IsActors m (reverse entries) actors
+  pub jobs_are : IsJobs m (reverse entries) jobs
+  pub wire_is : IsWire m (reverse entries) wire
+  pub cells_are : IsCells m (reverse entries) cells
   pub room_left : weight_of m ≤ room
-  pub small : room < 2 ^ 32
+  pub jobs_left : weight_of m ≤ jobs_room
+  pub small : weight_of m ≤ 1048576
+
+-- the next move of the host, or of the controller, is this one
+abbrev pub is_next_host : HostMove → Option HostMove → Bool
+is_next_host h None = false
+is_next_host h (Some g) = same_host h g
+
+abbrev pub is_next_effect : Effect → Option Effect → Bool
+is_next_effect e None = false
+is_next_effect e (Some f) = same_effect e f
+
+-- the first event in order that is pending, if one is
+abbrev pub IsFirstPending : MachineData → List Entry → Option Event → Type 0
+IsFirstPending m past None = (n : Event) → pending m past n ≡ false
+IsFirstPending m past (Some n) = (pending m past n ≡ true) × ((k : Event) → event_rank k < event_rank n → pending m past k ≡ false)
+
+-- nobody owns the Global Lock or competes for it
+abbrev pub IsFree : List Entry → Type 0
+IsFree past = (owner past ≡ None) × ((s : Side) → seeker s past ≡ None)

@@ -1,28 +1,11 @@
--- The bytes of a machine's cells, region by region (ACPI 6.5, section 5.5.2.4).
-use Rattle.std.specs.Prelude.{ℕ, ◌<◌, List, [], length, map, Option, Some, None, slice_get, slice_index, slice_set, unwrap_or}
+-- The bytes of a machine's cells in memory, region by region (ACPI 6.5, section 5.5.2.4). The controller keeps its own.
+use Rattle.std.specs.Prelude.{ℕ, ◌≡◌, ◌<◌, Bool, true, false, List, [], length, map, Option, Some, None, slice_get, slice_index, slice_set, unwrap_or, if◌then◌else◌}
 use Rattle.acpi_regs.specs.declared.entry.Cell.{Cell}
-use Rattle.field_units.specs.Field.{RegionData}
+use Rattle.acpi_regs.specs.declared.entry.Entry.{Entry}
+use Rattle.field_units.specs.Field.{RegionData, is_controller}
 use Rattle.machine_desc.specs.Machine.{MachineData}
-
--- how many cells a region has
-abbrev pub cells_in : Option RegionData → ℕ
-cells_in None = 0
-cells_in (Some region) = length region.cells
-
--- the machine has this cell
-abbrev pub IsCell : MachineData → Cell → Type 0
-IsCell m c = c.offset < cells_in (slice_get m.regions c.region)
-
--- the byte that the cells of a region have at an offset, and 0 past their end
-abbrev pub byte_at : Option RegionData → ℕ → ℕ
-byte_at None offset = 0
-byte_at (Some region) offset = slice_index region.cells offset
-
--- the description's byte of a cell
-abbrev pub first_byte : MachineData → Cell → ℕ
-first_byte m c = byte_at (slice_get m.regions c.region) c.offset
-
--- ---- bytes that are kept, region by region
+use Rattle.machine_history.specs.Acts.{is_memory_cell}
+use Rattle.machine_history.specs.Values.{value}
 
 abbrev pub bytes_in : List (List ℕ) → ℕ → List ℕ
 bytes_in regions r = unwrap_or (slice_get regions r) []
@@ -39,6 +22,18 @@ IsIn regions c = c.offset < length (bytes_in regions c.region)
 abbrev pub written : List (List ℕ) → Cell → ℕ → List (List ℕ)
 written regions c v = slice_set regions c.region (slice_set (bytes_in regions c.region) c.offset v)
 
+-- a region's bytes at the start; none where the controller keeps them
+abbrev pub kept_bytes : RegionData → List ℕ
+kept_bytes region = if is_controller region.kind then [] else region.cells
+
 -- the bytes at the start
 abbrev pub first_bytes : MachineData → List (List ℕ)
-first_bytes m = map (λ region. region.cells) m.regions
+first_bytes m = map kept_bytes m.regions
+
+abbrev pub is_controllers : Option RegionData → Bool
+is_controllers None = false
+is_controllers (Some region) = is_controller region.kind
+
+pub record IsCells (m : MachineData) (past : List Entry) (cells : List (List ℕ)) : Type 0 where
+  pub within : (c : Cell) → is_memory_cell m c ≡ true → IsIn cells c
+  pub are : (c : Cell) → is_memory_cell m c ≡ true → byte_in cells c ≡ value m past c

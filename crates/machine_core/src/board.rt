@@ -1,29 +1,37 @@
-ghost use Rattle.std.specs.Prelude.{◌≡◌, ◌<◌, ◌≤◌, [], ◌∷◌, ◌++◌, length, reverse, IsTrue, IfOk, Some, slice_get, ◌↔◌};
+ghost use Rattle.std.specs.Prelude.{◌≡◌, ◌<◌, ◌≤◌, ◌↔◌, [], ◌∷◌, ◌++◌, length, reverse, true, IsTrue, IfOk, None, Some, slice_get};
 ghost use Rattle.machine_desc.specs.Weight.{weight_of};
-ghost use Rattle.machine_core.specs.Cells.{IsCell};
-ghost use Rattle.machine_core.specs.Legal.{Legal, refusal, runs_scripts, is_read, is_write};
-ghost use Rattle.machine_core.specs.Scripts.{next_of};
-ghost use Rattle.machine_core.specs.Values.{value};
+ghost use Rattle.machine_history.specs.Legal.{Legal};
 
-use crate::LogRule;
-use crate::cells::{Access, Cells};
-use crate::cursors::Cursors;
-use acpi_regs::{Actor, Cell, Deed, Entry, Memory};
-use handler_script::Act;
+use crate::actors::Actors;
+use crate::cells::{Cells, access_of};
+use crate::events::Events;
+use crate::jobs::Jobs;
+use crate::lock::LockState;
+use crate::wire::Wire;
+use acpi_regs::{Entry, Memory};
 use machine_desc::Machine;
 use std::alloc::Global;
 use std::marker::Model;
+
+mod may;
+mod reads;
+mod rows;
+mod touches;
 
 /// A machine with the journal of what happened on it, which is legal at every moment.
 ///
 /// Beside the journal it keeps what the definitions find by looking back, so that no call depends on how long the
 /// journal is. All room is taken by [`Board::new`].
-#[derive(Debug, Drop)]
+#[derive(Drop)]
 pub struct Board {
     machine: Machine,
     journal: Vec<Entry>,
+    lock: LockState,
+    events: Events,
+    actors: Actors,
+    jobs: Jobs,
+    wire: Wire,
     cells: Cells,
-    cursors: Cursors,
 }
 
 impl Model for Board {
@@ -34,8 +42,8 @@ impl Model for Board {
 
     ghost view = { λ b. record { machine = b.machine; entries = b.journal.items } };
 
-    ghost invariant = { λ b. IsKept b.machine b.journal.items b.cells b.cursors
-        (vec_capacity b.journal) };
+    ghost invariant = { λ b. IsKept b.machine b.journal.items b.lock b.events b.actors b.jobs b.wire b.cells
+        (vec_capacity b.journal) (vec_capacity b.jobs.made) };
 }
 
 impl Board {
@@ -44,14 +52,22 @@ impl Board {
         requires { weight_of machine ≤ 1048576 }
         ensures { IfOk result (λ board. board ≡ record { machine = machine; entries = [] }) }
     {
-        let journal = Vec::with_capacity(alloc, machine.weight() as usize)?;
+        machine.law_rules();
+        let room = machine.weight() as u32;
+        let journal = Vec::with_capacity(alloc, room as usize)?;
+        let events = Events::new(alloc, &machine)?;
+        let jobs = Jobs::new(alloc, room as usize)?;
+        let wire = Wire::new(alloc, &machine, room)?;
         let cells = Cells::new(alloc, &machine)?;
-        let cursors = Cursors::new(alloc, &machine)?;
         Ok(Board {
             machine,
             journal,
+            lock: LockState::new(),
+            events,
+            actors: Actors::new(),
+            jobs,
+            wire,
             cells,
-            cursors,
         })
     }
 
@@ -66,6 +82,7 @@ impl Board {
     pub fn len(&self) -> u32
         ensures { result ≡ length self.now.entries }
     {
+        self.law_small();
         self.journal.len() as u32
     }
 
@@ -84,24 +101,6 @@ impl Board {
         self.journal[i as usize]
     }
 
-    /// The byte that a cell of the machine has: the last one written to it, else the description's.
-    pub fn cell(&self, cell: Cell) -> u8
-        requires { IsCell self.now.machine cell }
-        ensures { result ≡ value self.now.machine (reverse self.now.entries) cell }
-    {
-        self.cells.byte(cell)
-    }
-
-    /// The next act of an actor. `None` exactly where its script is through, or it has none.
-    pub fn act(&self, actor: Actor) -> Option<Act>
-        ensures { result ≡ next_of self.now.machine (reverse self.now.entries) actor }
-    {
-        match actor {
-            Actor::Firmware(number) => self.firmware_act(number),
-            _ => None,
-        }
-    }
-
     /// Whether the journal with this entry is legal.
     pub fn can(&self, entry: &Entry) -> bool
         ensures { IsTrue result ↔ Legal self.now.machine (self.now.entries ++ entry.now ∷ []) }
@@ -110,25 +109,21 @@ impl Board {
         self.refusal(entry).is_none()
     }
 
-    /// The first condition of the table of entries that the entry fails. `None` exactly where [`Board::can`] is true.
-    pub fn refusal(&self, entry: &Entry) -> Option<LogRule>
-        ensures { result ≡ refusal self.now.machine (reverse self.now.entries) entry.now }
-    {
-        match entry.deed {
-            Deed::Read(cell, byte) => self.read_refusal(entry.actor, cell, byte),
-            Deed::Write(cell, byte) => self.write_refusal(entry.actor, cell, byte),
-            _ => Some(LogRule::Actor),
-        }
-    }
-
     /// Appends an entry to the journal.
     pub fn apply(&mut self, entry: Entry)
         requires { Legal self.old.machine (self.old.entries ++ entry ∷ []) }
         ensures { self.new ≡ record self.old { entries = self.old.entries ++ entry ∷ [] } }
     {
         self.machine.law_rules();
-        self.cells.after(Access::of(entry));
-        self.cursors.after(&self.machine, entry);
+        let touched = self.touched(entry);
+        let made = self.made(entry);
+        self.actors
+            .go_on(&self.machine, self.jobs.made.as_slice(), entry);
+        self.events.touch(touched, entry.deed);
+        self.jobs.add(entry.deed, made);
+        self.cells.make(access_of(entry));
+        self.lock = self.lock.after(entry.actor, entry.deed);
+        self.wire.after(&self.machine, entry);
         self.journal.push_reserved(entry);
     }
 
@@ -139,77 +134,10 @@ impl Board {
         let _journal = &self.journal;
     }
 
-    /// The next act of a firmware; `None` where the machine has no such firmware.
-    fn firmware_act(&self, number: u8) -> Option<Act>
-        ensures { result ≡ next_of self.now.machine (reverse self.now.entries) (Actor.Firmware number) }
-    {
-        if usize::from(number) < self.machine.firmware().len() {
-            self.cursors.next(&self.machine, number)
-        } else {
-            None
-        }
-    }
-
-    fn read_refusal(&self, actor: Actor, cell: Cell, byte: u8) -> Option<LogRule>
-        ensures { result ≡ refusal self.now.machine (reverse self.now.entries)
-            (record { actor = actor; deed = Deed.Read cell byte }) }
+    /// The journal has room for more entries than it can have. The call has no cost.
+    fn law_small(&self)
+        ensures { length self.now.entries ≤ 1048576 }
     {
         self.machine.law_rules();
-        if !self.runs_scripts(actor) {
-            return Some(LogRule::Actor);
-        }
-        if !is_read(cell, self.act(actor)) {
-            return Some(LogRule::Next);
-        }
-        if byte != self.cell(cell) {
-            return Some(LogRule::Value);
-        }
-        None
-    }
-
-    fn write_refusal(&self, actor: Actor, cell: Cell, byte: u8) -> Option<LogRule>
-        ensures { result ≡ refusal self.now.machine (reverse self.now.entries)
-            (record { actor = actor; deed = Deed.Write cell byte }) }
-    {
-        if !self.runs_scripts(actor) {
-            return Some(LogRule::Actor);
-        }
-        if !is_write(cell, byte, self.act(actor)) {
-            return Some(LogRule::Next);
-        }
-        None
-    }
-
-    /// Whether the actor is a worker or a firmware of the machine.
-    fn runs_scripts(&self, actor: Actor) -> bool
-        ensures { result ≡ runs_scripts self.now.machine actor }
-    {
-        match actor {
-            Actor::Worker(number) => number < self.machine.workers(),
-            Actor::Firmware(number) => usize::from(number) < self.machine.firmware().len(),
-            Actor::Int | Actor::Poll | Actor::Ec | Actor::Device(_) => false,
-        }
-    }
-}
-
-/// Whether the act reads this cell.
-fn is_read(cell: Cell, act: Option<Act>) -> bool
-    ensures { result ≡ is_read cell act }
-{
-    match act {
-        Some(Act::Read(next)) => cell.region == next.region && cell.offset == next.offset,
-        _ => false,
-    }
-}
-
-/// Whether the act writes this byte to this cell.
-fn is_write(cell: Cell, byte: u8, act: Option<Act>) -> bool
-    ensures { result ≡ is_write cell byte act }
-{
-    match act {
-        Some(Act::Write(next, value)) => {
-            cell.region == next.region && cell.offset == next.offset && byte == value
-        }
-        _ => false,
     }
 }

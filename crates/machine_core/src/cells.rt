@@ -1,38 +1,41 @@
-ghost use Rattle.std.specs.Prelude.{◌≡◌, IfOk, slice_index, slice_set};
+//! The bytes of the cells in memory, region by region.
+ghost use Rattle.std.specs.Prelude.{◌≡◌, ◌<◌, IfOk, None, slice_index, slice_set};
 ghost use Rattle.acpi_regs.specs.declared.entry.Cell.{Cell};
-ghost use Rattle.machine_core.specs.Cells.{IsIn, byte_in, first_bytes, written};
-ghost use Rattle.machine_core.specs.Values.{deed_access, value_after};
+ghost use Rattle.machine_desc.specs.Machine.{MachineData};
+ghost use Rattle.machine_history.specs.Values.{deed_access, value_after};
+ghost use Rattle.machine_core.specs.Cells.{IsIn, byte_in, first_bytes, kept_bytes, written};
 
-use acpi_regs::{Actor, Cell, Deed, Entry, Memory};
+use acpi_regs::{Cell, Deed, Entry, Memory};
+use field_units::{Region, RegionKind};
 use machine_desc::Machine;
-use std::alloc::Global;
+use machine_history::Access;
+use std::alloc::{AllocError, Global};
 use std::marker::Model;
 
-/// One byte read from a cell or written to it, and the actor to whom the access is credited.
-#[derive(Clone, Copy, Debug)]
-pub struct Access {
-    pub by: Actor,
-    pub cell: Cell,
-    pub byte: u8,
-    pub writes: bool,
+/// The access to memory that an entry makes.
+pub fn access_of(entry: Entry) -> Option<Access>
+    ensures { (m : MachineData) → result ≡ deed_access m None entry.actor entry.deed }
+{
+    let (cell, byte, writes) = match entry.deed {
+        Deed::Read(cell, byte) => (cell, byte, false),
+        Deed::Write(cell, byte) => (cell, byte, true),
+        _ => return None,
+    };
+    Some(Access {
+        by: entry.actor,
+        cell,
+        byte,
+        writes,
+    })
 }
 
-impl Access {
-    /// The access that an entry makes.
-    pub fn of(entry: Entry) -> Option<Access>
-        ensures { result ≡ deed_access entry.actor entry.deed }
-    {
-        let (cell, byte, writes) = match entry.deed {
-            Deed::Read(cell, byte) => (cell, byte, false),
-            Deed::Write(cell, byte) => (cell, byte, true),
-            _ => return None,
-        };
-        Some(Access {
-            by: entry.actor,
-            cell,
-            byte,
-            writes,
-        })
+/// The bytes with which the cells of a region begin; none where the controller keeps them.
+fn bytes_of(alloc: Global, region: &Region) -> Result<Vec<u8>, AllocError>
+    ensures { IfOk result (λ bytes. bytes.items ≡ kept_bytes region.now) }
+{
+    match region.kind() {
+        RegionKind::Memory => region.cells().to_vec(alloc),
+        RegionKind::Controller => Ok(Vec::new(alloc)),
     }
 }
 
@@ -68,7 +71,7 @@ impl Bytes {
     }
 }
 
-/// The bytes of all cells, region by region.
+/// The bytes of all cells in memory, region by region.
 #[derive(Debug, Drop)]
 pub struct Cells {
     regions: Vec<Bytes>,
@@ -89,7 +92,7 @@ impl Cells {
     {
         let mut regions = Vec::with_capacity(alloc, machine.regions().len())?;
         for region in machine.regions() {
-            let bytes = region.cells().to_vec(alloc)?;
+            let bytes = bytes_of(alloc, region)?;
             regions.push(Bytes { bytes })?;
         }
         Ok(Cells { regions })
@@ -106,7 +109,7 @@ impl Cells {
     }
 
     /// Makes an access.
-    pub fn after(&mut self, access: Option<Access>)
+    pub fn make(&mut self, access: Option<Access>)
         ensures values { (c : Cell) → IsIn self.old c
             → byte_in self.new c ≡ value_after c access (byte_in self.old c) }
         ensures kept { (c : Cell) → IsIn self.old c → IsIn self.new c }

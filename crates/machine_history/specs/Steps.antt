@@ -1,5 +1,5 @@
 -- What one step of each actor does: the first thing in its list that is allowed, or nothing.
-use Rattle.std.specs.Prelude.{ℕ, ◌==◌, ◌||◌, not, nat_le, nat_lt, Bool, true, false, List, [], ◌∷◌, ◌++◌, length, map, reverse, Option, Some, None, is_none, slice_get, unwrap_or, if◌then◌else◌}
+use Rattle.std.specs.Prelude.{ℕ, ◌||◌, not, nat_lt, Bool, true, false, List, [], ◌∷◌, ◌++◌, length, map, reverse, Option, Some, None, is_none, slice_get, unwrap_or, if◌then◌else◌}
 use Rattle.std.specs.Option.{option_map}
 use Rattle.acpi_regs.specs.declared.actor.Actor.{Actor}
 use Rattle.acpi_regs.specs.declared.actor.Actor.TheVariants as actor
@@ -16,6 +16,7 @@ use Rattle.acpi_regs.specs.Core.{Core, events_of, no_event}
 use Rattle.acpi_regs.specs.Event.{same_event}
 use Rattle.acpi_regs.specs.Phases.{Free, Lock, Phase, Pulsed, allows, is_idle, moved, put}
 use Rattle.ec_driver.specs.Driver.{effect_in, host_of}
+use Rattle.facs_word.specs.Word.{acquired, is_owned, is_pending, released}
 use Rattle.handler_script.specs.declared.act.Act.{Act}
 use Rattle.handler_script.specs.declared.act.Act.TheVariants as act
 use Rattle.machine_desc.specs.Machine.{MachineData}
@@ -163,16 +164,6 @@ next_step m pins past a p = None
 
 -- ---- what a step does to the core
 
--- the lock's word: 0 is free, 2 owned, 3 owned with the other side waiting (ACPI 6.5, section 5.2.10.1)
-abbrev pub is_owned : ℕ → Bool
-is_owned w = nat_le 2 w
-
-abbrev pub acquired : ℕ → ℕ
-acquired w = if is_owned w then 3 else 2
-
-abbrev pub is_pending : ℕ → Bool
-is_pending w = w == 3
-
 abbrev pub moved_in : Deed → Phase → Phase
 moved_in d (Lock p) = Lock (moved d p)
 moved_in d p = p
@@ -186,7 +177,7 @@ latch a n = entry a (deed.Latch n)
 
 abbrev pub happens : Core → Actor → Step → Core
 happens c a Attempts = record c { word = acquired c.word; phases = put a (Lock (if is_owned c.word then phase.Marked else phase.Won)) c.phases }
-happens c a Releases = record c { word = 0; phases = put a (Lock (phase.Gone (is_pending c.word))) c.phases }
+happens c a Releases = record c { word = released c.word; phases = put a (Lock (phase.Gone (is_pending c.word))) c.phases }
 happens c a (Pulses n) = record c { pins = λ x. c.pins x || same_event x n; phases = put a (pulsed_more n (not (c.pins n)) (c.phases a)) c.phases }
 happens c a Sweeps = record c { pins = no_event; history = c.history ++ map (latch a) (events_of c.pins); phases = put a Free c.phases }
 happens c a (Adds d) = record c { history = c.history ++ entry a d ∷ []; phases = put a (moved_in d (c.phases a)) c.phases }

@@ -68,8 +68,8 @@ pub fn law_gbl_status()
     ensures { (m : MachineData) (history : List Entry) → IsMachine m → gbl_status (reverse history) ≡ status m (reverse history) gbl }
 {}
 
-/// The line of an event is asserted where the last assert or drop of it is an assert. An event is held from its last claim to
-/// the finish of the job that the claim made. Its status is what the last entry made of it that sets or clears it.
+/// The line of an event is asserted where the last assert or drop of it is an assert. A listed event is held from its last
+/// claim to the finish of a job that a claim of it made. Its status is what the last entry made of it that sets or clears it.
 pub fn law_events_last()
     ensures line { (m : MachineData) (n : Event) (history : List Entry) → IsLast (told (line_set n)) false history (line m (reverse history) n) }
     ensures held { (m : MachineData) (n : Event) (history : List Entry) → IsLast (held_set m n) false history (held m (reverse history) n) }
@@ -81,8 +81,9 @@ pub fn law_running_last()
     ensures { (a : Actor) (history : List Entry) → IsLast (told (running_set a)) None history (running (reverse history) a) }
 {}
 
-/// A transaction is open where the last begin or take is a begin, by its actor and for its request. Burst mode is on where the last Out of burst enable, Taken of burst disable or Calm is an Out of burst enable. It is the
-/// interrupt handler's turn where the last of its claims of the controller's event and its steps is a claim.
+/// The transaction that is open is that of the last begin, unless a take came since. Burst mode is on where the last Out of
+/// burst enable, Taken of burst disable or Calm is an Out of burst enable. It is the interrupt handler's turn where the last
+/// of its claims of the controller's event and its steps is a claim.
 pub fn law_wire_last()
     ensures opener { (history : List Entry) → IsLast (told opener_set) None history (opener_in (open_of (reverse history))) }
     ensures burst { (history : List Entry) → IsLast burst_set false history (burst (reverse history)) }

@@ -1,4 +1,4 @@
-use Rattle.machine_core.proofs.Room.{weight_bounds}
+use Rattle.machine_history.proofs.Whole.{weight_bounds}
 use Rattle.acpi_commands.proofs.play.round.Goals as goal
 
 pub returns-clause-within : goal.returns-clause-within

@@ -1,6 +1,6 @@
 use Rattle.std.proofs.Common.{◌≡◌, ◌<◌, ℕ, true, false, length, reverse}
 use Rattle.acpi_regs.specs.declared.actor.Actor.TheVariants as actor
-use Rattle.machine_core.specs.Scripts.{next_of}
+use Rattle.machine_history.specs.Scripts.{next_of}
 use Rattle.acpi_commands.specs.Built.{is_access}
 use Rattle.acpi_commands.proofs.play.round.Given as goal
 
