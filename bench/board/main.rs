@@ -32,7 +32,7 @@ fn measure(rt: &HostRuntime, board: &mut Board) -> io::Result<()> {
     for _ in 0..1_000_000u32 {
         let before = board.len();
         round(board);
-        while next < MARKS.len() && board.len() >= MARKS[next] {
+        if next < MARKS.len() && board.len() >= MARKS[next] {
             let spent = start.elapsed(rt)?.as_nanos();
             println!(rt; "{} {spent}", MARKS[next])?;
             next += 1;
