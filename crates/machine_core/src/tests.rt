@@ -1,7 +1,3 @@
 //! Boards of small machines, each driven entry by entry through whole histories, and what they refuse on the way.
-mod controller;
-mod events;
-mod lock;
 mod machines;
 mod memory;
-mod refusals;
