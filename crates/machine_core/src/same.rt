@@ -11,12 +11,14 @@ ghost use Rattle.machine_history.specs.Values as values;
 use acpi_regs::{Actor, Cell, Deed, Effect, Event, HostMove, Request};
 use handler_script::Act;
 
+/// Whether the two are one event.
 pub fn same_event(one: Event, other: Event) -> bool
     ensures { result ≡ events.same_event one other }
 {
     one == other
 }
 
+/// Whether the two are one actor.
 pub fn same_actor(one: Actor, other: Actor) -> bool
     ensures { result ≡ actors.same_actor one other }
 {
@@ -166,12 +168,14 @@ fn asked(act: Act, deed: Deed) -> bool
     }
 }
 
+/// Whether the deed is a leave, by which an actor ends its episode of the Global Lock.
 pub fn is_leave(deed: Deed) -> bool
     ensures { result ≡ legal.is_leave deed }
 {
     matches!(deed, Deed::Leave(_))
 }
 
+/// Whether the actor is the interrupt handler.
 pub fn is_int(actor: Actor) -> bool
     ensures { result ≡ legal.is_int actor }
 {
