@@ -4,7 +4,7 @@ ghost use Rattle.acpi_io.specs.Faults.{RoseByOne};
 ghost use Rattle.acpi_io.specs.Sink.{WritesAll};
 ghost use Rattle.machine_history.specs.Complete.{Complete};
 ghost use Rattle.machine_reader.specs.Description.{Describes};
-ghost use Rattle.acpi_commands.specs.Run.{FromBytes, Refuses, status_of, text};
+ghost use Rattle.acpi_commands.specs.Run.{FromBytes, Refuses, text};
 
 use crate::built::is_built;
 use crate::play::play;
@@ -13,7 +13,7 @@ use crate::status::Status;
 use acpi_io::{Sink, WriteFault};
 use history_text::write_log;
 use machine_core::Board;
-use machine_reader::{ReaderFault, read_machine, write_machine};
+use machine_reader::{read_machine, write_machine};
 use std::alloc::Global;
 
 /// Runs the machine that the bytes describe, and writes its log to the sink.
@@ -40,7 +40,7 @@ fn prepare_run(alloc: Global, bytes: &[u8]) -> Result<Prepared, Status>
 {
     let machine = match read_machine(alloc, bytes) {
         Ok(machine) => machine,
-        Err(fault) => return Err(status_of(fault)),
+        Err(fault) => return Err(Status::from(fault)),
     };
     if !is_built(&machine) {
         return Err(Status::NotBuilt);
@@ -52,19 +52,6 @@ fn prepare_run(alloc: Global, bytes: &[u8]) -> Result<Prepared, Status>
         return Err(Status::Memory);
     };
     Ok(Prepared { board, text })
-}
-
-/// The status of a fault of the reader.
-fn status_of(fault: ReaderFault) -> Status
-    ensures { result ≡ status_of fault }
-{
-    match fault {
-        ReaderFault::NotJson => Status::NotJson,
-        ReaderFault::BadShape(path) => Status::BadShape(path),
-        ReaderFault::BadMachine(bad) => Status::BadMachine(bad),
-        ReaderFault::TooLong(weight) => Status::TooLong(weight),
-        ReaderFault::Memory => Status::Memory,
-    }
 }
 
 /// Runs a prepared machine to its end and writes its log. It takes no memory.

@@ -1,8 +1,8 @@
 ghost use Rattle.std.specs.Prelude.{◌≡◌};
-ghost use Rattle.acpi_commands.specs.Run.{code_of};
+ghost use Rattle.acpi_commands.specs.Run.{code_of, status_of};
 
 use machine_desc::BadMachine;
-use machine_reader::PathText;
+use machine_reader::{PathText, ReaderFault};
 
 /// What a call of the program came to.
 #[derive(Debug, Drop, PartialEq)]
@@ -46,6 +46,21 @@ impl Status {
             Status::WriteFault => 6,
             Status::Memory => 7,
             Status::TooLarge => 9,
+        }
+    }
+}
+
+/// A fault of the reader of descriptions is the status of its name.
+impl From<ReaderFault> for Status {
+    fn from(fault: ReaderFault) -> Status
+        ensures { result ≡ status_of fault }
+    {
+        match fault {
+            ReaderFault::NotJson => Status::NotJson,
+            ReaderFault::BadShape(path) => Status::BadShape(path),
+            ReaderFault::BadMachine(bad) => Status::BadMachine(bad),
+            ReaderFault::TooLong(weight) => Status::TooLong(weight),
+            ReaderFault::Memory => Status::Memory,
         }
     }
 }
