@@ -1,8 +1,8 @@
 //! What the reader answers to each description of standard input: a program that the gate runs on a table of cases.
 //!
-//! A line that begins with `= ` or `? ` names a case, and the next line is its description. A line is written for each, with
-//! the name and the answer: the fault, as the program `acpi_events` tells it, or `accepted`. Behind `= ` that has the weight,
-//! and says whether the description is its canonical text.
+//! A case is two lines, its name and its description. A line is written for each, with the name and the answer: the fault, as
+//! the program `acpi_events` tells it, or the weight and the actors of the machine, and whether the description was its
+//! canonical text.
 #![tactic(auto)]
 
 use acpi_commands::Status;
@@ -23,34 +23,48 @@ fn main(rt: HostRuntime) -> io::Result<ExitCode> {
         Err(ReadAllFault::Memory) => return Err(io::ErrorKind::OutOfMemory.into()),
         Err(_) => return Ok(ExitCode::FAILURE),
     };
-    let mut lines = bytes.split(|byte| *byte == b'\n');
-    while let (Some(name), Some(text)) = (lines.next(), lines.next()) {
-        let (is_summed, name) = match name {
-            [b'=', b' ', name @ ..] => (true, name),
-            [b'?', b' ', name @ ..] => (false, name),
-            _ => return Ok(ExitCode::FAILURE),
-        };
-        let answer = answer(rt.alloc(), text, is_summed)?;
-        println!(&rt; "{}: {answer}", str::from_utf8(name).unwrap_or("?"))?;
+    let mut name: Option<&[u8]> = None;
+    for line in bytes.split(|byte| *byte == b'\n') {
+        match name {
+            None => name = Some(line),
+            Some(given) => {
+                let given = str::from_utf8(given).unwrap_or("?");
+                let answer = answer(rt.alloc(), line)?;
+                println!(&rt; "{given}: {answer}")?;
+                name = None;
+            }
+        }
     }
     Ok(ExitCode::SUCCESS)
 }
 
 /// What the reader answers to a description.
-fn answer(alloc: Global, text: &[u8], is_summed: bool) -> Result<String, AllocError> {
+fn answer(alloc: Global, text: &[u8]) -> Result<String, AllocError> {
     match read_machine(alloc, text) {
-        Ok(machine) if is_summed => summed(alloc, text, &machine),
-        Ok(_) => String::from_str_in(alloc, "accepted"),
+        Ok(machine) => accepted(alloc, text, &machine),
         Err(fault) => format!(in alloc; "{}", Status::from(fault)),
     }
 }
 
-/// The weight of a machine, and whether it was read from its canonical text.
-fn summed(alloc: Global, text: &[u8], machine: &Machine) -> Result<String, AllocError> {
-    let Ok(canonical) = write_machine(alloc, machine) else {
+/// The weight of a machine, its actors, and whether it was read from its canonical text.
+fn accepted(alloc: Global, text: &[u8], machine: &Machine) -> Result<String, AllocError> {
+    let mut answer = format!(in alloc; "accepted, weight {}, actors", machine.weight())?;
+    for k in 0..machine.actors() {
+        answer.push_str(format!(in alloc; " {:?}", machine.actor(k))?.as_str())?;
+    }
+    if is_canonical(alloc, text, machine)? {
+        answer.push_str(", canonical")?;
+    }
+    Ok(answer)
+}
+
+/// Whether a text is the one of a machine, or of its copy.
+fn is_canonical(alloc: Global, text: &[u8], machine: &Machine) -> Result<bool, AllocError> {
+    let Ok(copy) = machine.copied(alloc) else {
         return Err(AllocError);
     };
-    let is_canonical = canonical.as_slice() == text;
-    let suffix = if is_canonical { ", canonical" } else { "" };
-    format!(in alloc; "accepted, weight {}{suffix}", machine.weight())
+    match write_machine(alloc, &copy) {
+        Ok(canonical) => Ok(canonical.as_slice() == text),
+        Err(_) => Err(AllocError),
+    }
 }

@@ -29,5 +29,3 @@ pub use items::Items;
 pub use machine::{ControllerDesc, ListedEvent, Machine, Query};
 pub use parts::{ControllerPart, EventPart, FieldPart, MachineParts, QueryPart, RegionPart};
 
-#[cfg(test)]
-mod tests;
