@@ -5,3 +5,5 @@ pub mod LockPast
 pub mod LockSteps
 pub mod LockTurns
 pub mod Names
+pub mod PinSteps
+pub mod Pins
