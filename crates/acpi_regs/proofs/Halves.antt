@@ -1,11 +1,10 @@
 -- What each step does to the word and to the two sides, as numbers. The first half is that of the actor that steps.
-use Rattle.std.proofs.Common.{ℕ, ◌+◌, ◌≤◌, ◌≡◌, ◌==◌, ◌&&◌, ◌||◌, Bool, true, false, not, Option, Some, None, refl, sym, ap, subst, arith}
+use Rattle.std.proofs.Common.{ℕ, ◌+◌, ◌≤◌, ◌≡◌, ◌==◌, ◌||◌, Bool, true, false, Option, None, refl, sym, subst, arith}
 use Rattle.std.proofs.lemmas.Bool.{eqb-true}
 use Rattle.acpi_regs.specs.declared.phase.LockPhase.{LockPhase}
 use Rattle.acpi_regs.specs.declared.phase.LockPhase.TheVariants as phase
 use Rattle.acpi_regs.specs.CoreEvents.{acquired, is_pending, one, released, tried}
 use Rattle.acpi_regs.specs.CoreSound.{Agree, Half, holds, is_word, waits}
-use Rattle.acpi_regs.specs.Phases.{is_gone, is_marked}
 use Rattle.acpi_regs.proofs.LockActors.{by_cases}
 
 abbrev pub half_at : LockPhase → Bool → ℕ → ℕ → Half

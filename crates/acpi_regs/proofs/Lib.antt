@@ -1,5 +1,6 @@
 pub mod Exact
 pub mod Halves
+pub mod Latching
 pub mod LockActors
 pub mod LockPast
 pub mod LockSteps

@@ -1,16 +1,15 @@
 -- Actors, the sides for which they compete, and phases of which one is changed.
-use Rattle.std.proofs.Common.{ℕ, ◌≡◌, ◌==◌, Bool, true, false, not, cond, Option, Some, None, refl, sym, ap, ◌∙◌, subst, if◌then◌else◌}
+use Rattle.std.proofs.Common.{◌≡◌, Bool, true, false, cond, Option, Some, None, refl, sym, ap, ◌∙◌, subst, if◌then◌else◌}
 use Rattle.std.proofs.lemmas.Bool.{eq-eqb, eqb-true}
 use Rattle.acpi_regs.specs.declared.actor.Actor.{Actor}
 use Rattle.acpi_regs.specs.declared.actor.Actor.TheVariants as actor
 use Rattle.acpi_regs.specs.declared.actor.Side.{Side}
 use Rattle.acpi_regs.specs.declared.actor.Side.TheVariants as side
 use Rattle.acpi_regs.specs.declared.phase.LockPhase.{LockPhase}
-use Rattle.acpi_regs.specs.declared.phase.LockPhase.TheVariants as phase
 use Rattle.acpi_regs.specs.Actor.{same_actor, stands_on}
 use Rattle.acpi_regs.specs.CoreSound.{competes, lock_phase, lock_phases, phase_at}
 use Rattle.acpi_regs.specs.Lock.{is_someone, other}
-use Rattle.acpi_regs.specs.Phases.{Lock, Phase, put}
+use Rattle.acpi_regs.specs.Phases.{Phase, put}
 
 -- ---- one actor or two
 

@@ -1,5 +1,5 @@
 -- Each step of the lock leads from a sound lock to a sound one.
-use Rattle.std.proofs.Common.{ℕ, ◌+◌, ◌≤◌, ◌≡◌, ◌==◌, ◌&&◌, ◌⊎◌, inl, inr, Bool, true, false, not, cond, List, ◌∷◌, Option, Some, None, refl, sym, ap, ◌∙◌, subst, arith, if◌then◌else◌}
+use Rattle.std.proofs.Common.{ℕ, ◌+◌, ◌≡◌, ◌==◌, ◌&&◌, ◌⊎◌, inl, inr, Bool, true, false, not, cond, List, ◌∷◌, Option, Some, None, refl, sym, ap, ◌∙◌, subst, arith}
 use Rattle.acpi_regs.specs.declared.actor.Actor.{Actor}
 use Rattle.acpi_regs.specs.declared.actor.Side.{Side}
 use Rattle.acpi_regs.specs.declared.actor.Side.TheVariants as side
@@ -10,11 +10,11 @@ use Rattle.acpi_regs.specs.declared.phase.LockPhase.{LockPhase}
 use Rattle.acpi_regs.specs.declared.phase.LockPhase.TheVariants as phase
 use Rattle.acpi_regs.specs.Actor.{same_actor, stands_on}
 use Rattle.acpi_regs.specs.CoreEvents.{acquired, entry, is_owned, is_pending, one, released, tried}
-use Rattle.acpi_regs.specs.CoreSound.{Agree, Fits, LockSound, competes, half, has_good_word, holds, is_signalled, is_word, phase_at, tells}
+use Rattle.acpi_regs.specs.CoreSound.{Agree, Fits, LockSound, competes, half, has_good_word, holds, is_signalled, phase_at, tells}
 use Rattle.acpi_regs.specs.Lock.{busies, busies_in, has_disowned, has_owned, is_busy, is_someone, leaves, other, owner, seeker, signals_in}
-use Rattle.acpi_regs.specs.Phases.{is_idle, is_lock_deed, is_owning, moved}
+use Rattle.acpi_regs.specs.Phases.{is_idle, is_lock_deed, is_owning}
 use Rattle.acpi_regs.proofs.Halves.{half_at, busy as busy_half, disown as disown_half, equal, exchange as exchange_half, leave_signal, leave_silent, load as load_half, one_most, own as own_half, release as release_half, risen, seek as seek_half, swap, woken as woken_half}
-use Rattle.acpi_regs.proofs.LockActors.{actor_self, actor_swap, actor_true, apart, at_other, by_cases, competes_stands, one_side, set, set_other, set_same, set_self, someone_is, someone_self}
+use Rattle.acpi_regs.proofs.LockActors.{actor_self, actor_swap, actor_true, apart, at_other, by_cases, competes_stands, one_side, set, set_other, set_self, someone_is}
 use Rattle.acpi_regs.proofs.LockPast.{busies_self, busies_other, is_still, leaves_other, leaves_self, other_fits, quiet_busies, quiet_busy, quiet_disowned, quiet_leaves, quiet_owned, quiet_owner, quiet_seeker, refit, seeker_by, seeker_other, seeker_self, self_fits, signals_leave_other, signals_leave_self, signals_risen, signals_still, signals_woken_other}
 
 -- ---- the agreement, either way round
@@ -46,20 +46,20 @@ framed : (w : ℕ) (past : List Entry) (f : Actor → LockPhase) (a : Actor) (s 
     → Both w (entry a d ∷ past) (set a q f) s
 framed w past f a s d q is seekers its h =
     equal w q (phase_at (set a q f) (seeker s (entry a d ∷ past))) (phase_at f (seeker (other s) past)) (phase_at (set a q f) (seeker (other s) (entry a d ∷ past)))
-        (is_signalled s (entry a d ∷ past)) (is_signalled s (entry a d ∷ past)) (is_signalled (other s) (entry a d ∷ past)) (is_signalled (other s) (entry a d ∷ past))
-        (signals_in d + leaves s past) (leaves s (entry a d ∷ past)) (busies_in d + busies s past) (busies s (entry a d ∷ past))
-        (leaves (other s) past) (leaves (other s) (entry a d ∷ past)) (busies (other s) past) (busies (other s) (entry a d ∷ past))
-        (ap (phase_at (set a q f)) (seeker_self s a d past is) ∙ its) refl (leaves_self s a d past is) (busies_self s a d past is)
-        (ap (phase_at (set a q f)) (seeker_other s a d past is) ∙ at_other s a q f (seeker (other s) past) is (λ b at. seekers (other s) b at)) refl (leaves_other s a d past is) (busies_other s a d past is)
-        h
+    (is_signalled s (entry a d ∷ past)) (is_signalled s (entry a d ∷ past)) (is_signalled (other s) (entry a d ∷ past)) (is_signalled (other s) (entry a d ∷ past))
+    (signals_in d + leaves s past) (leaves s (entry a d ∷ past)) (busies_in d + busies s past) (busies s (entry a d ∷ past))
+    (leaves (other s) past) (leaves (other s) (entry a d ∷ past)) (busies (other s) past) (busies (other s) (entry a d ∷ past))
+    (ap (phase_at (set a q f)) (seeker_self s a d past is) ∙ its) refl (leaves_self s a d past is) (busies_self s a d past is)
+    (ap (phase_at (set a q f)) (seeker_other s a d past is) ∙ at_other s a q f (seeker (other s) past) is (λ b at. seekers (other s) b at)) refl (leaves_other s a d past is) (busies_other s a d past is)
+    h
 
 -- one that touches no signal
 still : (w : ℕ) (past : List Entry) (f : Actor → LockPhase) (a : Actor) (s : Side) (d : Deed) (q : LockPhase) → competes s a ≡ true → Seekers past → is_still d ≡ true → phase_at (set a q f) (seeker_by a d (seeker s past)) ≡ q
     → Agree w (half_at q (is_signalled s past) (signals_in d + leaves s past) (busies_in d + busies s past)) (half past f (other s)) → Both w (entry a d ∷ past) (set a q f) s
 still w past f a s d q is seekers quiet its h =
     framed w past f a s d q is seekers its
-        (subst (λ x. Agree w (half_at q x (signals_in d + leaves s past) (busies_in d + busies s past)) (half_at (phase_at f (seeker (other s) past)) (is_signalled (other s) (entry a d ∷ past)) (leaves (other s) past) (busies (other s) past))) (sym (signals_still s a d past quiet))
-        (subst (λ x. Agree w (half_at q (is_signalled s past) (signals_in d + leaves s past) (busies_in d + busies s past)) (half_at (phase_at f (seeker (other s) past)) x (leaves (other s) past) (busies (other s) past))) (sym (signals_still (other s) a d past quiet)) h))
+    (subst (λ x. Agree w (half_at q x (signals_in d + leaves s past) (busies_in d + busies s past)) (half_at (phase_at f (seeker (other s) past)) (is_signalled (other s) (entry a d ∷ past)) (leaves (other s) past) (busies (other s) past))) (sym (signals_still s a d past quiet))
+    (subst (λ x. Agree w (half_at q (is_signalled s past) (signals_in d + leaves s past) (busies_in d + busies s past)) (half_at (phase_at f (seeker (other s) past)) x (leaves (other s) past) (busies (other s) past))) (sym (signals_still (other s) a d past quiet)) h))
 
 -- a step of the word
 worded : (w : ℕ) (past : List Entry) (f : Actor → LockPhase) (a : Actor) (s : Side) (q : LockPhase) → competes s a ≡ true → Seekers past → seeker s past ≡ Some a
@@ -127,12 +127,12 @@ some_other a b o apart is = ap (is_someone b) is ∙ actor_swap a b apart
 pub seeks : (w : ℕ) (past : List Entry) (f : Actor → LockPhase) (a : Actor) (s : Side) → competes s a ≡ true → f a ≡ phase.Idle → seeker s past ≡ None → LockSound w past f → LockSound w (entry a deed.Seek ∷ past) (set a (phase.Seeking None) f)
 seeks w past f a s is at none h =
     kept w w past (entry a deed.Seek ∷ past) f a s (phase.Seeking None) is
-        (still w past f a s deed.Seek (phase.Seeking None) is h.seekers refl (set_self a (phase.Seeking None) f) (seek_half w (is_signalled s past) (leaves s past) (busies s past) (half past f (other s)) (opened w past f s phase.Idle (ap (phase_at f) none) (turned w past f s h.agree))))
-        (self_fits past s a deed.Seek (phase.Seeking None) is (ap not (sym (actor_self a))) (fit_at w past f a s phase.Idle is at h).owner refl refl)
-        (λ t b other its. other_fits past t a b deed.Seek (f b) other (sought (stands_on t a) b (seeker t past) other (λ on. ap (λ u. seeker u past) (one_side s t a is on) ∙ none)) refl (h.fits t b its))
-        (λ t b. seekers t b (stands_on t a) refl)
-        (owners_same past f a phase.Idle (phase.Seeking None) at refl h.owners)
-        h
+    (still w past f a s deed.Seek (phase.Seeking None) is h.seekers refl (set_self a (phase.Seeking None) f) (seek_half w (is_signalled s past) (leaves s past) (busies s past) (half past f (other s)) (opened w past f s phase.Idle (ap (phase_at f) none) (turned w past f s h.agree))))
+    (self_fits past s a deed.Seek (phase.Seeking None) is (ap not (sym (actor_self a))) (fit_at w past f a s phase.Idle is at h).owner refl refl)
+    (λ t b other its. other_fits past t a b deed.Seek (f b) other (sought (stands_on t a) b (seeker t past) other (λ on. ap (λ u. seeker u past) (one_side s t a is on) ∙ none)) refl (h.fits t b its))
+    (λ t b. seekers t b (stands_on t a) refl)
+    (owners_same past f a phase.Idle (phase.Seeking None) at refl h.owners)
+    h
   where
     sought : (x : Bool) (b : Actor) (o : Option Actor) → same_actor a b ≡ false → (x ≡ true → o ≡ None) → is_someone b (cond x (Some a) o) ≡ is_someone b o
     sought true b o other none = actor_swap a b other ∙ sym (ap (is_someone b) (none refl))
@@ -158,26 +158,26 @@ busies_it w past f a s is at h =
     let fit = fit_at w past f a s phase.Marked is at h in
     let its = seeker_is past s a phase.Marked refl fit in
     kept w w past (entry a deed.Busy ∷ past) f a s phase.Waiting is
-        (still w past f a s deed.Busy phase.Waiting is h.seekers refl (phase_of past (set a phase.Waiting f) a s phase.Waiting its (set_self a phase.Waiting f)) (busy_half w (is_signalled s past) (leaves s past) (busies s past) (half past f (other s)) (opened w past f s phase.Marked (phase_of past f a s phase.Marked its at) (turned w past f s h.agree))))
-        (self_fits past s a deed.Busy phase.Waiting is fit.seeker fit.owner (to_busy (has_owned a past) (is_busy a past) fit.since) refl)
-        (λ t b other its. other_fits past t a b deed.Busy (f b) other refl refl (h.fits t b its))
-        h.seekers
-        (owners_same past f a phase.Marked phase.Waiting at refl h.owners)
-        h
+    (still w past f a s deed.Busy phase.Waiting is h.seekers refl (phase_of past (set a phase.Waiting f) a s phase.Waiting its (set_self a phase.Waiting f)) (busy_half w (is_signalled s past) (leaves s past) (busies s past) (half past f (other s)) (opened w past f s phase.Marked (phase_of past f a s phase.Marked its at) (turned w past f s h.agree))))
+    (self_fits past s a deed.Busy phase.Waiting is fit.seeker fit.owner (to_busy (has_owned a past) (is_busy a past) fit.since) refl)
+    (λ t b other its. other_fits past t a b deed.Busy (f b) other refl refl (h.fits t b its))
+    h.seekers
+    (owners_same past f a phase.Marked phase.Waiting at refl h.owners)
+    h
 
 pub is_woken : (w : ℕ) (past : List Entry) (f : Actor → LockPhase) (a : Actor) (s : Side) → competes s a ≡ true → f a ≡ phase.Waiting → LockSound w past f → LockSound w (entry a deed.Woken ∷ past) (set a (phase.Seeking None) f)
 is_woken w past f a s is at h =
     let fit = fit_at w past f a s phase.Waiting is at h in
     let its = seeker_is past s a phase.Waiting refl fit in
     kept w w past (entry a deed.Woken ∷ past) f a s (phase.Seeking None) is
-        (framed w past f a s deed.Woken (phase.Seeking None) is h.seekers (phase_of past (set a (phase.Seeking None) f) a s (phase.Seeking None) its (set_self a (phase.Seeking None) f))
-            (subst (λ x. Agree w (half_at (phase.Seeking None) (is_signalled s (entry a deed.Woken ∷ past)) (0 + leaves s past) (0 + busies s past)) (half_at (phase_at f (seeker (other s) past)) x (leaves (other s) past) (busies (other s) past))) (sym (signals_woken_other s a past is))
-            (woken_half w (is_signalled s past) (is_signalled s (entry a deed.Woken ∷ past)) (leaves s past) (busies s past) (half past f (other s)) (opened w past f s phase.Waiting (phase_of past f a s phase.Waiting its at) (turned w past f s h.agree)))))
-        (self_fits past s a deed.Woken (phase.Seeking None) is fit.seeker fit.owner (to_woken (has_owned a past) (is_busy a past) fit.since) refl)
-        (λ t b other its. other_fits past t a b deed.Woken (f b) other refl refl (h.fits t b its))
-        h.seekers
-        (owners_same past f a phase.Waiting (phase.Seeking None) at refl h.owners)
-        h
+    (framed w past f a s deed.Woken (phase.Seeking None) is h.seekers (phase_of past (set a (phase.Seeking None) f) a s (phase.Seeking None) its (set_self a (phase.Seeking None) f))
+    (subst (λ x. Agree w (half_at (phase.Seeking None) (is_signalled s (entry a deed.Woken ∷ past)) (0 + leaves s past) (0 + busies s past)) (half_at (phase_at f (seeker (other s) past)) x (leaves (other s) past) (busies (other s) past))) (sym (signals_woken_other s a past is))
+    (woken_half w (is_signalled s past) (is_signalled s (entry a deed.Woken ∷ past)) (leaves s past) (busies s past) (half past f (other s)) (opened w past f s phase.Waiting (phase_of past f a s phase.Waiting its at) (turned w past f s h.agree)))))
+    (self_fits past s a deed.Woken (phase.Seeking None) is fit.seeker fit.owner (to_woken (has_owned a past) (is_busy a past) fit.since) refl)
+    (λ t b other its. other_fits past t a b deed.Woken (f b) other refl refl (h.fits t b its))
+    h.seekers
+    (owners_same past f a phase.Waiting (phase.Seeking None) at refl h.owners)
+    h
 
 pub which_side : (s t : Side) → (t ≡ s) ⊎ (t ≡ other s)
 which_side side.Os side.Os = inl refl
@@ -216,12 +216,12 @@ owns w past f a s is at h =
     let fit = fit_at w past f a s phase.Won is at h in
     let its = seeker_is past s a phase.Won refl fit in
     kept w w past (entry a deed.Own ∷ past) f a s phase.Owning is
-        (still w past f a s deed.Own phase.Owning is h.seekers refl (phase_of past (set a phase.Owning f) a s phase.Owning its (set_self a phase.Owning f)) (own_half w (is_signalled s past) (leaves s past) (busies s past) (half past f (other s)) (opened w past f s phase.Won (phase_of past f a s phase.Won its at) (turned w past f s h.agree))))
-        (self_fits past s a deed.Own phase.Owning is fit.seeker (sym (actor_self a)) refl refl)
-        (λ t b other its. other_fits past t a b deed.Own (f b) other refl (actor_swap a b other ∙ (sym (none_owns w past f a b s t is its other at h) ∙ (h.fits t b its).owner)) (h.fits t b its))
-        h.seekers
-        (λ b owner. ap (λ x. is_owning (set a phase.Owning f x)) (sym (some-injective a b owner)) ∙ ap is_owning (set_self a phase.Owning f))
-        h
+    (still w past f a s deed.Own phase.Owning is h.seekers refl (phase_of past (set a phase.Owning f) a s phase.Owning its (set_self a phase.Owning f)) (own_half w (is_signalled s past) (leaves s past) (busies s past) (half past f (other s)) (opened w past f s phase.Won (phase_of past f a s phase.Won its at) (turned w past f s h.agree))))
+    (self_fits past s a deed.Own phase.Owning is fit.seeker (sym (actor_self a)) refl refl)
+    (λ t b other its. other_fits past t a b deed.Own (f b) other refl (actor_swap a b other ∙ (sym (none_owns w past f a b s t is its other at h) ∙ (h.fits t b its).owner)) (h.fits t b its))
+    h.seekers
+    (λ b owner. ap (λ x. is_owning (set a phase.Owning f x)) (sym (some-injective a b owner)) ∙ ap is_owning (set_self a phase.Owning f))
+    h
   where
     some-injective : (x y : Actor) → Some x ≡ Some y → x ≡ y
     some-injective x y e = cc
@@ -231,32 +231,32 @@ disowns w past f a s is at h =
     let fit = fit_at w past f a s phase.Owning is at h in
     let its = seeker_is past s a phase.Owning refl fit in
     kept w w past (entry a deed.Disown ∷ past) f a s phase.Quit is
-        (still w past f a s deed.Disown phase.Quit is h.seekers refl (phase_of past (set a phase.Quit f) a s phase.Quit its (set_self a phase.Quit f)) (disown_half w (is_signalled s past) (leaves s past) (busies s past) (half past f (other s)) (opened w past f s phase.Owning (phase_of past f a s phase.Owning its at) (turned w past f s h.agree))))
-        (self_fits past s a deed.Disown phase.Quit is fit.seeker refl refl refl)
-        (λ t b other its. other_fits past t a b deed.Disown (f b) other refl (sym (some_other a b (owner past) other (owner_is past s a fit))) (h.fits t b its))
-        h.seekers
-        (λ b owner. cc)
-        h
+    (still w past f a s deed.Disown phase.Quit is h.seekers refl (phase_of past (set a phase.Quit f) a s phase.Quit its (set_self a phase.Quit f)) (disown_half w (is_signalled s past) (leaves s past) (busies s past) (half past f (other s)) (opened w past f s phase.Owning (phase_of past f a s phase.Owning its at) (turned w past f s h.agree))))
+    (self_fits past s a deed.Disown phase.Quit is fit.seeker refl refl refl)
+    (λ t b other its. other_fits past t a b deed.Disown (f b) other refl (sym (some_other a b (owner past) other (owner_is past s a fit))) (h.fits t b its))
+    h.seekers
+    (λ b owner. cc)
+    h
 
 pub leaves_it : (w : ℕ) (past : List Entry) (f : Actor → LockPhase) (a : Actor) (s : Side) (x : Bool) → competes s a ≡ true → f a ≡ phase.Gone x → LockSound w past f → LockSound w (entry a (deed.Leave x) ∷ past) (set a phase.Idle f)
 leaves_it w past f a s x is at h =
     let fit = fit_at w past f a s (phase.Gone x) is at h in
     let its = seeker_is past s a (phase.Gone x) refl fit in
     kept w w past (entry a (deed.Leave x) ∷ past) f a s phase.Idle is
-        (by_signal x (opened w past f s (phase.Gone x) (phase_of past f a s (phase.Gone x) its at) (turned w past f s h.agree)))
-        (self_fits past s a (deed.Leave x) phase.Idle is refl fit.owner refl refl)
-        (λ t b other at_b. other_fits past t a b (deed.Leave x) (f b) other (left (stands_on t a) b (seeker t past) other (λ on. ap (λ u. seeker u past) (one_side s t a is on) ∙ its)) refl (h.fits t b at_b))
-        (λ t b. seekers t b (stands_on t a))
-        (owners_same past f a (phase.Gone x) phase.Idle at refl h.owners)
-        h
+    (by_signal x (opened w past f s (phase.Gone x) (phase_of past f a s (phase.Gone x) its at) (turned w past f s h.agree)))
+    (self_fits past s a (deed.Leave x) phase.Idle is refl fit.owner refl refl)
+    (λ t b other at_b. other_fits past t a b (deed.Leave x) (f b) other (left (stands_on t a) b (seeker t past) other (λ on. ap (λ u. seeker u past) (one_side s t a is on) ∙ its)) refl (h.fits t b at_b))
+    (λ t b. seekers t b (stands_on t a))
+    (owners_same past f a (phase.Gone x) phase.Idle at refl h.owners)
+    h
   where
     by_signal : (x : Bool) → Agree w (half_at (phase.Gone x) (is_signalled s past) (leaves s past) (busies s past)) (half past f (other s)) → Both w (entry a (deed.Leave x) ∷ past) (set a phase.Idle f) s
     by_signal false agree = still w past f a s (deed.Leave false) phase.Idle is h.seekers refl refl (leave_silent w (is_signalled s past) (leaves s past) (busies s past) (half past f (other s)) agree)
     by_signal true agree =
         framed w past f a s (deed.Leave true) phase.Idle is h.seekers refl
-            (subst (λ x. Agree w (half_at phase.Idle x (1 + leaves s past) (0 + busies s past)) (half_at (phase_at f (seeker (other s) past)) (is_signalled (other s) (entry a (deed.Leave true) ∷ past)) (leaves (other s) past) (busies (other s) past))) (sym (signals_leave_self s a past is))
-            (subst (λ x. Agree w (half_at phase.Idle (is_signalled s past) (1 + leaves s past) (0 + busies s past)) (half_at (phase_at f (seeker (other s) past)) x (leaves (other s) past) (busies (other s) past))) (sym (signals_leave_other s a past is))
-            (leave_signal w (is_signalled s past) (leaves s past) (busies s past) (phase_at f (seeker (other s) past)) (is_signalled (other s) past) (leaves (other s) past) (busies (other s) past) agree)))
+        (subst (λ x. Agree w (half_at phase.Idle x (1 + leaves s past) (0 + busies s past)) (half_at (phase_at f (seeker (other s) past)) (is_signalled (other s) (entry a (deed.Leave true) ∷ past)) (leaves (other s) past) (busies (other s) past))) (sym (signals_leave_self s a past is))
+        (subst (λ x. Agree w (half_at phase.Idle (is_signalled s past) (1 + leaves s past) (0 + busies s past)) (half_at (phase_at f (seeker (other s) past)) x (leaves (other s) past) (busies (other s) past))) (sym (signals_leave_other s a past is))
+        (leave_signal w (is_signalled s past) (leaves s past) (busies s past) (phase_at f (seeker (other s) past)) (is_signalled (other s) past) (leaves (other s) past) (busies (other s) past) agree)))
 
     left : (y : Bool) (b : Actor) (o : Option Actor) → same_actor a b ≡ false → (y ≡ true → o ≡ Some a) → is_someone b (cond y None o) ≡ is_someone b o
     left true b o other its = sym (some_other a b o other (its refl))
@@ -277,7 +277,7 @@ quiet w past f a d none h = record {
       (ap (phase_at f) (quiet_seeker d side.Os a past none)) refl (quiet_leaves d side.Os a past none) (quiet_busies d side.Os a past none)
       (ap (phase_at f) (quiet_seeker d side.Firmware a past none)) refl (quiet_leaves d side.Firmware a past none) (quiet_busies d side.Firmware a past none)
       (risen w (phase_at f (seeker side.Os past)) (phase_at f (seeker side.Firmware past)) (is_signalled side.Os past) (is_signalled side.Firmware past) (is_signalled side.Os (entry a d ∷ past)) (is_signalled side.Firmware (entry a d ∷ past)) (leaves side.Os past) (leaves side.Firmware past) (busies side.Os past) (busies side.Firmware past)
-          (signals_risen side.Os a d past none) (signals_risen side.Firmware a d past none) h.agree);
+      (signals_risen side.Os a d past none) (signals_risen side.Firmware a d past none) h.agree);
   fits = λ s b is. refit past (entry a d ∷ past) s b (f b) (ap (is_someone b) (quiet_seeker d s a past none)) (ap (is_someone b) (quiet_owner d a past none)) (quiet_owned d a b past none) (quiet_disowned d a b past none) (quiet_busy d a b past none) (h.fits s b is);
   sides = h.sides;
   seekers = λ s b is. h.seekers s b (sym (quiet_seeker d s a past none) ∙ is);
@@ -295,12 +295,12 @@ word_kept w v past f a s p q is at busy free idle owning since good agree h =
     let fit = fit_at w past f a s p is at h in
     let its = seeker_is past s a p busy fit in
     kept w v past past f a s q is
-        (worded v past f a s q is h.seekers its (agree (opened w past f s p (phase_of past f a s p its at) (turned w past f s h.agree))))
-        (word_fits past s a p q idle owning since good fit)
-        (λ t b other at_b. h.fits t b at_b)
-        h.seekers
-        (owners_same past f a p q at free h.owners)
-        h
+    (worded v past f a s q is h.seekers its (agree (opened w past f s p (phase_of past f a s p its at) (turned w past f s h.agree))))
+    (word_fits past s a p q idle owning since good fit)
+    (λ t b other at_b. h.fits t b at_b)
+    h.seekers
+    (owners_same past f a p q at free h.owners)
+    h
 
 pub loads : (w : ℕ) (past : List Entry) (f : Actor → LockPhase) (a : Actor) (l : Option ℕ) → f a ≡ phase.Seeking l → LockSound w past f → LockSound w past (set a (phase.Seeking (Some w)) f)
 loads w past f a l at h =

@@ -1,5 +1,5 @@
 -- Each event of a core keeps the lock sound, and each actor in a phase of its kind.
-use Rattle.std.proofs.Common.{ℕ, ◌+◌, ◌≤◌, ◌≡◌, ◌==◌, Bool, true, false, not, cond, List, [], ◌∷◌, ◌++◌, map, reverse, Option, Some, None, refl, sym, ap, ◌∙◌, subst, arith, if◌then◌else◌}
+use Rattle.std.proofs.Common.{ℕ, ◌+◌, ◌≤◌, ◌≡◌, ◌==◌, Bool, true, false, not, cond, List, [], ◌∷◌, ◌++◌, map, reverse, Some, None, refl, sym, ap, ◌∙◌, subst, arith}
 use Rattle.std.proofs.lemmas.Bool.{eqb-true}
 use Rattle.std.proofs.lemmas.Grind.{reverse_onto}
 use Rattle.std.proofs.lemmas.List.{reverse-append}
@@ -13,15 +13,15 @@ use Rattle.acpi_regs.specs.declared.entry.Entry.{Entry}
 use Rattle.acpi_regs.specs.declared.event.Event.{Event}
 use Rattle.acpi_regs.specs.declared.phase.LockPhase.{LockPhase}
 use Rattle.acpi_regs.specs.declared.phase.LockPhase.TheVariants as phase
-use Rattle.acpi_regs.specs.Actor.{same_actor, stands_on}
+use Rattle.acpi_regs.specs.Actor.{same_actor}
 use Rattle.acpi_regs.specs.Core.{Core}
-use Rattle.acpi_regs.specs.CoreEvents.{Collect, CoreEvent, EachMay, Exchange, IsUnsought, Load, MayHappen, Pulses, Release, Turn, acquired, collected, entry, exchanged, freed, happens, is_host, is_owned, loaded, lock_deeds, may_add, moved_all, moved_in, next_pulse, one, past_in, pulsed, tried, turned}
+use Rattle.acpi_regs.specs.CoreEvents.{Collect, CoreEvent, EachMay, Exchange, IsUnsought, Load, MayHappen, Pulses, Release, Turn, acquired, entry, exchanged, freed, happens, is_host, loaded, lock_deeds, may_add, moved_all, moved_in, one, past_in, pulsed, tried, turned}
 use Rattle.acpi_regs.specs.CoreSound.{AreOfKind, Fits, LockSound, competes, is_kind, lock_phase, lock_phases}
 use Rattle.acpi_regs.specs.Lock.{seeker}
 use Rattle.acpi_regs.specs.Phases.{Free, Holding, Lock, Phase, Pulsed, first_phase, is_gone, is_idle, is_lock_deed, is_marked, is_owning, is_waiting, is_won, moved, put}
 use Rattle.acpi_regs.proofs.LockActors.{actor_true, by_cases, competes_stands, put_other, put_same, put_self, set, set_put, set_unseen}
 use Rattle.acpi_regs.proofs.LockPast.{quiet_moved, quiet_seeker}
-use Rattle.acpi_regs.proofs.LockSteps.{busies_it, disowns, exchanges, forgets, is_woken, leaves_it, loads, owns, quiet, releases, seeks, side_at}
+use Rattle.acpi_regs.proofs.LockSteps.{busies_it, disowns, exchanges, forgets, is_woken, leaves_it, loads, owns, quiet, releases, seeks}
 
 -- ---- kinds
 
@@ -68,6 +68,9 @@ kind_host actor.Int words hand is = refl
 kind_host actor.Poll words hand is = refl
 kind_host _ words hand is = cc
 
+pub turned_kinds : (c : Core) (a : Actor) (ds : List Deed) → AreOfKind c.phases → AreOfKind (turned c a ds).phases
+turned_kinds c a ds kinds = kind_put c.phases a (freed (moved_all ds (c.phases a))) (kind_freed a (moved_all ds (c.phases a)) (kind_all a ds (c.phases a) (kinds a))) kinds
+
 pub kinds_step : (lists : List (List Event)) (c : Core) (e : CoreEvent) → AreOfKind c.phases → MayHappen lists c e → AreOfKind (happens lists c e).phases
 kinds_step lists c (Load a) kinds may = kind_put c.phases a (Lock (phase.Seeking (Some c.word))) (kind_at c.phases a (phase.Seeking may.0) (phase.Seeking (Some c.word)) may.1 kinds) kinds
 kinds_step lists c (Exchange a) kinds may = subst (λ o. AreOfKind (exchanged c a o).phases) (sym (ap loaded may.1)) (by_cases (c.word == may.0) (AreOfKind (exchanged c a (Some may.0)).phases) (λ same. subst (λ b. AreOfKind (choice b).phases) (sym same) at_tried) (λ moved. subst (λ b. AreOfKind (choice b).phases) (sym moved) forgotten))
@@ -83,7 +86,7 @@ kinds_step lists c (Exchange a) kinds may = subst (λ o. AreOfKind (exchanged c 
 kinds_step lists c (Release a) kinds may = kind_put c.phases a (Lock (phase.Gone _)) (kind_at c.phases a phase.Quit (phase.Gone _) may kinds) kinds
 kinds_step lists c (Pulses k) kinds may = subst (λ o. AreOfKind (pulsed c k o).phases) (sym may.1) (kind_put c.phases (actor.Device k) (Pulsed _) refl kinds)
 kinds_step lists c (Collect a w) kinds may = kind_put c.phases a (Holding _ _) (kind_host a _ _ may.0) kinds
-kinds_step lists c (Turn a ds) kinds may = kind_put c.phases a (freed (moved_all ds (c.phases a))) (kind_freed a (moved_all ds (c.phases a)) (kind_all a ds (c.phases a) (kinds a))) kinds
+kinds_step lists c (Turn a ds) kinds may = turned_kinds c a ds kinds
 
 pub first_kinds : AreOfKind first_phase
 first_kinds actor.Int = refl
@@ -178,8 +181,8 @@ still_in d (Pulsed ps) none = refl
 pub deed_lock : (w : ℕ) (past : List Entry) (f : Actor → Phase) (a : Actor) (p : Phase) (d : Deed) → is_kind a p ≡ true → may_add p d ≡ true → IsUnsought past a d → LockSound w past (lock_phases (put a p f)) → LockSound w (entry a d ∷ past) (lock_phases (put a (moved_in d p) f))
 deed_lock w past f a p d kind may free h =
     by_cases (is_lock_deed d) (LockSound w (entry a d ∷ past) (lock_phases (put a (moved_in d p) f)))
-        (λ is. of_lock p is kind may h)
-        (λ none. subst (λ q. LockSound w (entry a d ∷ past) (lock_phases (put a q f))) (sym (still_in d p none)) (quiet w past (lock_phases (put a p f)) a d none h))
+    (λ is. of_lock p is kind may h)
+    (λ none. subst (λ q. LockSound w (entry a d ∷ past) (lock_phases (put a q f))) (sym (still_in d p none)) (quiet w past (lock_phases (put a p f)) a d none h))
   where
     none_of : (b : Bool) → b ≡ true → not b ≡ true → ⊥
     none_of b is isnt = cc
@@ -213,8 +216,8 @@ pub turn_lock : (ds : List Deed) (w : ℕ) (past : List Entry) (f : Actor → Ph
 turn_lock [] w past f a p kind few each h = h
 turn_lock (d ∷ ds) w past f a p kind few each h =
     by_cases (is_lock_deed d) (LockSound w (add_all a ds (entry a d ∷ past)) (lock_phases (put a (moved_all ds (moved_in d p)) f)))
-        (λ is. quiet_all ds w (entry a d ∷ past) f a (moved_in d p) (let all : one (is_lock_deed d) + lock_deeds ds ≤ 1 = few in let one_is = ap one is in omega arith) (deed_lock w past f a p d kind each.0 each.1 h))
-        (λ none. subst (λ q. LockSound w (add_all a ds (entry a d ∷ past)) (lock_phases (put a (moved_all ds q) f))) (sym (still_in d p none)) (turn_lock ds w (entry a d ∷ past) f a p kind (let all : one (is_lock_deed d) + lock_deeds ds ≤ 1 = few in omega arith) (each_same ds p a past (entry a d ∷ past) (λ s. quiet_seeker d s a past none) each.2) (quiet w past (lock_phases (put a p f)) a d none h)))
+    (λ is. quiet_all ds w (entry a d ∷ past) f a (moved_in d p) (let all : one (is_lock_deed d) + lock_deeds ds ≤ 1 = few in let one_is = ap one is in omega arith) (deed_lock w past f a p d kind each.0 each.1 h))
+    (λ none. subst (λ q. LockSound w (add_all a ds (entry a d ∷ past)) (lock_phases (put a (moved_all ds q) f))) (sym (still_in d p none)) (turn_lock ds w (entry a d ∷ past) f a p kind (let all : one (is_lock_deed d) + lock_deeds ds ≤ 1 = few in omega arith) (each_same ds p a past (entry a d ∷ past) (λ s. quiet_seeker d s a past none) each.2) (quiet w past (lock_phases (put a p f)) a d none h)))
 
 -- ---- every event
 

@@ -1,24 +1,22 @@
 -- A pulse, a collect, and each event of a core keep its pins and hands sound.
-use Rattle.std.proofs.Common.{ℕ, zero, suc, ◌+◌, ◌/◌, ◌<◌, ◌≤◌, ◌≡◌, ◌==◌, ◌&&◌, ◌||◌, Bool, true, false, not, cond, List, [], ◌∷◌, ◌++◌, length, unwrap_or, slice_get, Option, Some, None, refl, sym, ap, ◌∙◌, subst, arith, if◌then◌else◌}
-use Rattle.std.proofs.lemmas.Bool.{eqb-true, eqb-false, eq-eqb, ne_eqb}
+use Rattle.std.proofs.Common.{ℕ, zero, suc, ◌+◌, ◌<◌, ◌≤◌, ◌≡◌, ◌==◌, ◌&&◌, ◌||◌, Bool, true, false, not, cond, List, [], ◌∷◌, ◌++◌, length, unwrap_or, slice_get, Option, Some, None, refl, sym, ap, ◌∙◌, subst, arith}
+use Rattle.std.proofs.lemmas.Bool.{eqb-true, eqb-false, ne_eqb}
 use Rattle.std.proofs.lemmas.Option.{slice_get_within}
 use Rattle.acpi_regs.specs.declared.actor.Actor.{Actor}
 use Rattle.acpi_regs.specs.declared.actor.Actor.TheVariants as actor
 use Rattle.acpi_regs.specs.declared.entry.Deed.{Deed}
-use Rattle.acpi_regs.specs.declared.entry.Entry.{Entry}
 use Rattle.acpi_regs.specs.declared.event.Event.{Event}
-use Rattle.acpi_regs.specs.declared.phase.LockPhase.{LockPhase}
 use Rattle.acpi_regs.specs.declared.phase.LockPhase.TheVariants as phase
 use Rattle.acpi_regs.specs.declared.phase.Pulse.{Pulse}
 use Rattle.acpi_regs.specs.Actor.{same_actor}
 use Rattle.acpi_regs.specs.Core.{Core, all_events, first_core, no_event}
-use Rattle.acpi_regs.specs.CoreEvents.{Collect, CoreEvent, Exchange, InRange, Load, MayHappen, OthersFree, Pulses, Release, Turn, acquired, collected, exchanged, happens, has_collected, in_hand, is_holding, is_host, list_of, loaded, next_pulse, one, past_in, pulsed, pulses_in, tried}
-use Rattle.acpi_regs.specs.CoreSound.{CoreSound, IsStart, PinsSound, all_clear, all_pulses, hands, latches, sum_below, times_clear, times_pulsed}
+use Rattle.acpi_regs.specs.CoreEvents.{Collect, CoreEvent, Exchange, InRange, IsTurn, Load, MayHappen, OthersFree, Pulses, Release, Turn, acquired, collected, exchanged, happens, has_collected, in_hand, is_holding, is_host, list_of, loaded, next_pulse, one, past_in, pulsed, pulses_in, tried, turned}
+use Rattle.acpi_regs.specs.CoreSound.{CoreSound, IsStart, PinsSound, all_clear, all_pulses, hands, sum_below, times_clear, times_pulsed}
 use Rattle.acpi_regs.specs.Event.{event_rank, same_event, word_of}
 use Rattle.acpi_regs.specs.Phases.{Free, Holding, Lock, Phase, Pulsed, first_phase, put}
 use Rattle.acpi_regs.proofs.LockActors.{actor_true, by_cases, put_other, put_self}
-use Rattle.acpi_regs.proofs.LockTurns.{first_kinds, first_lock, kinds_step, lock_step}
-use Rattle.acpi_regs.proofs.Pins.{event_self, event_swap, event_true, same_put, still, turned_pins}
+use Rattle.acpi_regs.proofs.LockTurns.{first_kinds, first_lock, kinds_step, lock_step, turned_kinds, turned_lock}
+use Rattle.acpi_regs.proofs.Pins.{event_swap, event_true, same_put, still, turned_pins}
 
 both : (x : Bool) → x ≡ true → x ≡ false → ⊥
 both x p q = cc
@@ -33,8 +31,8 @@ sum_changed : (f g : ℕ → ℕ) (k n : ℕ) → ((j : ℕ) → (j == k) ≡ fa
 sum_changed f g k zero same less = absurd (omega (arith, less))
 sum_changed f g k (suc n) same less =
     by_cases (n == k) (sum_below g (suc n) + f k ≡ sum_below f (suc n) + g k)
-        (λ is. let e = eqb-true n k is in let rest = sum_apart f g k n same (omega (arith, e)) in let gs = ap g e in let fs = ap f e in omega arith)
-        (λ apart. let rest = sum_changed f g k n same (let ne = eqb-false n k apart in grind (arith, less, ne)) in let here = same n apart in omega arith)
+    (λ is. let e = eqb-true n k is in let rest = sum_apart f g k n same (omega (arith, e)) in let gs = ap g e in let fs = ap f e in omega arith)
+    (λ apart. let rest = sum_changed f g k n same (let ne = eqb-false n k apart in grind (arith, less, ne)) in let here = same n apart in omega arith)
 
 -- ---- a pulse
 
@@ -64,7 +62,6 @@ device_of lists k i x next = at (slice_get lists k) refl next
     at (Some list) is next = slice_get_within lists k list is
 
 module _ (lists : List (List Event)) (c : Core) (k : ℕ) (x : Event) (next : next_pulse lists c k ≡ Some x) (h : PinsSound lists c.pins (past_in c) c.phases) where
-
   abbrev after : Actor → Phase
   after = (pulsed c k (Some x)).phases
 
@@ -318,6 +315,9 @@ first_pins lists = record {
 
 pub core_step : (lists : List (List Event)) (c : Core) (e : CoreEvent) → InRange lists → CoreSound lists c → MayHappen lists c e → CoreSound lists (happens lists c e)
 core_step lists c e range h may = record { kinds = kinds_step lists c e h.kinds may; lock = lock_step lists c e h.kinds h.lock may; pinned = pins_step lists c e range h.pinned may }
+
+pub core_turn : (lists : List (List Event)) (c : Core) (a : Actor) (ds : List Deed) → CoreSound lists c → IsTurn (c.phases a) (past_in c) a ds → CoreSound lists (turned c a ds)
+core_turn lists c a ds h is = record { kinds = turned_kinds c a ds h.kinds; lock = turned_lock c a ds h.kinds is.few is.each h.lock; pinned = turned_pins lists c a ds is.latches h.pinned }
 
 pub core_first : (lists : List (List Event)) → CoreSound lists first_core
 core_first lists = record { kinds = first_kinds; lock = first_lock; pinned = first_pins lists }

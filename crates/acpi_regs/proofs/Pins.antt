@@ -1,5 +1,5 @@
 -- Each event of a core keeps its pins and hands sound.
-use Rattle.std.proofs.Common.{ℕ, zero, suc, ◌+◌, ◌/◌, ◌<◌, ◌≤◌, ◌≡◌, ◌==◌, ◌&&◌, ◌||◌, ◌⊎◌, inl, inr, Bool, true, false, not, cond, List, [], ◌∷◌, ◌++◌, length, map, reverse, unwrap_or, slice_get, nat_lt, Option, Some, None, refl, sym, ap, ◌∙◌, subst, arith, if◌then◌else◌}
+use Rattle.std.proofs.Common.{ℕ, zero, suc, ◌+◌, ◌<◌, ◌≤◌, ◌≡◌, ◌==◌, ◌&&◌, ◌⊎◌, inl, inr, Bool, true, false, not, cond, List, [], ◌∷◌, ◌++◌, length, map, nat_lt, refl, sym, ap, ◌∙◌, subst, arith}
 use Rattle.std.proofs.lemmas.Bool.{eqb-true, eqb-false, eq-eqb, ne_eqb, cases_Bool, ltb-true, ltb-false}
 use Rattle.acpi_regs.specs.declared.actor.Actor.{Actor}
 use Rattle.acpi_regs.specs.declared.actor.Actor.TheVariants as actor
@@ -11,15 +11,13 @@ use Rattle.acpi_regs.specs.declared.event.Event.TheVariants as event
 use Rattle.acpi_regs.specs.declared.event.Fixed.{Fixed}
 use Rattle.acpi_regs.specs.declared.event.Fixed.TheVariants as fixed
 use Rattle.acpi_regs.specs.declared.phase.LockPhase.{LockPhase}
-use Rattle.acpi_regs.specs.declared.phase.LockPhase.TheVariants as phase
-use Rattle.acpi_regs.specs.declared.phase.Pulse.{Pulse}
 use Rattle.acpi_regs.specs.Actor.{same_actor}
-use Rattle.acpi_regs.specs.Core.{Core, all_events, event_at, events_below, events_of, if_in, no_event}
-use Rattle.acpi_regs.specs.CoreEvents.{Collect, CoreEvent, Exchange, InRange, LatchesFirst, Load, MayHappen, OthersFree, Pulses, Release, Turn, acquired, collected, entry, exchanged, freed, happens, has_collected, has_no_latch, in_hand, is_holding, is_host, is_latch, list_of, loaded, moved_all, moved_in, next_pulse, one, past_in, pulsed, pulses_in, tried, turned}
-use Rattle.acpi_regs.specs.CoreSound.{IsStart, PinsSound, all_clear, all_pulses, hands, latch_in, latches, sum_below, times_clear, times_pulsed}
+use Rattle.acpi_regs.specs.Core.{Core, all_events, event_at, events_below, events_of, if_in}
+use Rattle.acpi_regs.specs.CoreEvents.{LatchesFirst, entry, freed, has_collected, has_no_latch, in_hand, is_holding, is_host, is_latch, list_of, moved_all, moved_in, one, past_in, pulses_in, turned}
+use Rattle.acpi_regs.specs.CoreSound.{IsStart, PinsSound, all_clear, all_pulses, hands, latch_in, latches, sum_below, times, times_clear, times_pulsed}
 use Rattle.acpi_regs.specs.Event.{event_rank, fixed_rank, same_event, word_of}
-use Rattle.acpi_regs.specs.Phases.{Free, Holding, Lock, Phase, Pulsed, first_phase, put}
-use Rattle.acpi_regs.proofs.LockActors.{actor_true, actor_swap, by_cases, put_other, put_self}
+use Rattle.acpi_regs.specs.Phases.{Free, Holding, Lock, Phase, Pulsed, put}
+use Rattle.acpi_regs.proofs.LockActors.{actor_true, by_cases, put_other, put_self}
 use Rattle.acpi_regs.proofs.LockTurns.{add_all, turn_past}
 
 both : (x : Bool) → x ≡ true → x ≡ false → ⊥
@@ -67,11 +65,6 @@ rank_at (suc (suc (suc zero))) = refl
 rank_at (suc (suc (suc (suc zero)))) = refl
 rank_at (suc (suc (suc (suc (suc k))))) = omega arith
 
--- how often an event stands in a list
-abbrev pub times : Event → List Event → ℕ
-times n [] = 0
-times n (x ∷ events) = one (same_event x n) + times n events
-
 times-append : (n : Event) (xs ys : List Event) → times n (xs ++ ys) ≡ times n xs + times n ys
 times-append n [] ys = omega arith
 times-append n (x ∷ xs) ys = let rest = times-append n xs ys in omega arith
@@ -106,15 +99,15 @@ unfolding events_below
 times_below set n zero less = absurd (omega (arith, less))
 times_below set n (suc k) less =
     by_cases (event_rank n == k) (times n (events_below set (suc k)) ≡ one (set n))
-        (λ is.
-            let e = eqb-true (event_rank n) k is in
-            let before = times_past set n k (omega (arith, e)) in
-            let here = times_here set n (event_at k) (ap event_at (sym e) ∙ at_rank n) in
-            times-append n (events_below set k) (if_in set (event_at k)) ∙ omega arith)
-        (λ apart.
-            let before = times_below set n k (let ne = eqb-false (event_rank n) k apart in grind (arith, less, ne)) in
-            let here = times_apart set n (event_at k) (rank_apart k n apart) in
-            times-append n (events_below set k) (if_in set (event_at k)) ∙ omega arith)
+    (λ is.
+    let e = eqb-true (event_rank n) k is in
+    let before = times_past set n k (omega (arith, e)) in
+    let here = times_here set n (event_at k) (ap event_at (sym e) ∙ at_rank n) in
+    times-append n (events_below set k) (if_in set (event_at k)) ∙ omega arith)
+    (λ apart.
+    let before = times_below set n k (let ne = eqb-false (event_rank n) k apart in grind (arith, less, ne)) in
+    let here = times_apart set n (event_at k) (rank_apart k n apart) in
+    times-append n (events_below set k) (if_in set (event_at k)) ∙ omega arith)
 
 -- the events of a set that has only events that there are
 pub times_of : (set : Event → Bool) (n : Event) → (set n ≡ true → event_rank n < all_events) → times n (events_of set) ≡ one (set n)
@@ -280,12 +273,12 @@ turn_keeps lists pins past later f a q pulses free latched h = record {
     in_hands : (n : Event) → one (in_hand (f a) n) + hands (put a q f) n ≡ hands f n
     in_hands n =
         by_cases (same_actor a actor.Int) (one (in_hand (f a) n) + hands (put a q f) n ≡ hands f n)
-            (λ is. subst (λ b. same_actor b actor.Poll ≡ false → one (in_hand (put b q f b) n) ≡ 0 → one (in_hand (put b q f actor.Poll) n) ≡ one (in_hand (f actor.Poll) n) → one (in_hand (f b) n) + hands (put b q f) n ≡ hands f n) (sym (actor_true a actor.Int is)) (λ apart gone there. omega arith) (subst (λ b. same_actor b actor.Poll ≡ false) (sym (actor_true a actor.Int is)) refl) (hand_self n) (hand_put actor.Poll n (subst (λ b. same_actor b actor.Poll ≡ false) (sym (actor_true a actor.Int is)) refl)))
-            (λ not_int.
-                let int_there = hand_put actor.Int n not_int in
-                by_cases (same_actor a actor.Poll) (one (in_hand (f a) n) + hands (put a q f) n ≡ hands f n)
-                    (λ is. let mine = ap (λ b. one (in_hand (f b) n)) (actor_true a actor.Poll is) in let gone = ap (λ b. one (in_hand (put a q f b) n)) (sym (actor_true a actor.Poll is)) ∙ hand_self n in omega arith)
-                    (λ not_poll. let poll_there = hand_put actor.Poll n not_poll in let none = ap one (none_in_hand (f a) n (h.hosts a (no_host a not_int not_poll))) in omega arith))
+        (λ is. subst (λ b. same_actor b actor.Poll ≡ false → one (in_hand (put b q f b) n) ≡ 0 → one (in_hand (put b q f actor.Poll) n) ≡ one (in_hand (f actor.Poll) n) → one (in_hand (f b) n) + hands (put b q f) n ≡ hands f n) (sym (actor_true a actor.Int is)) (λ apart gone there. omega arith) (subst (λ b. same_actor b actor.Poll ≡ false) (sym (actor_true a actor.Int is)) refl) (hand_self n) (hand_put actor.Poll n (subst (λ b. same_actor b actor.Poll ≡ false) (sym (actor_true a actor.Int is)) refl)))
+        (λ not_int.
+        let int_there = hand_put actor.Int n not_int in
+        by_cases (same_actor a actor.Poll) (one (in_hand (f a) n) + hands (put a q f) n ≡ hands f n)
+        (λ is. let mine = ap (λ b. one (in_hand (f b) n)) (actor_true a actor.Poll is) in let gone = ap (λ b. one (in_hand (put a q f b) n)) (sym (actor_true a actor.Poll is)) ∙ hand_self n in omega arith)
+        (λ not_poll. let poll_there = hand_put actor.Poll n not_poll in let none = ap one (none_in_hand (f a) n (h.hosts a (no_host a not_int not_poll))) in omega arith))
       where
         no_host : (a : Actor) → same_actor a actor.Int ≡ false → same_actor a actor.Poll ≡ false → is_host a ≡ false
         no_host actor.Int i p = cc
@@ -295,6 +288,6 @@ turn_keeps lists pins past later f a q pulses free latched h = record {
 pub turned_pins : (lists : List (List Event)) (c : Core) (a : Actor) (ds : List Deed) → LatchesFirst (c.phases a) ds → PinsSound lists c.pins (past_in c) c.phases → PinsSound lists c.pins (past_in (turned c a ds)) (turned c a ds).phases
 turned_pins lists c a ds first h =
     turn_keeps lists c.pins (past_in c) (past_in (turned c a ds)) c.phases a (freed (moved_all ds (c.phases a)))
-        (freed_pulses (moved_all ds (c.phases a)) ∙ all_moved_pulses ds (c.phases a)) (freed_holding (moved_all ds (c.phases a)))
-        (λ n. ap (latches n) (turn_past c a ds) ∙ (turn_latches n a ds (past_in c) ∙ ap (λ x. x + latches n (past_in c)) (turn_hand (c.phases a) ds n (h.hand_known a n) first)))
-        h
+    (freed_pulses (moved_all ds (c.phases a)) ∙ all_moved_pulses ds (c.phases a)) (freed_holding (moved_all ds (c.phases a)))
+    (λ n. ap (latches n) (turn_past c a ds) ∙ (turn_latches n a ds (past_in c) ∙ ap (λ x. x + latches n (past_in c)) (turn_hand (c.phases a) ds n (h.hand_known a n) first)))
+    h

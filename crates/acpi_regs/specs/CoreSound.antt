@@ -1,6 +1,7 @@
 -- When a core is sound, as far as its word, its pins, its entries and its actors' phases tell: the lock's word and its
 -- signals agree with what actors are about to do (ACPI 6.5, section 5.2.10.1), and no pulse is lost or latched twice.
 use Rattle.std.specs.Prelude.{ℕ, zero, suc, ◌≡◌, ◌≤◌, ◌<◌, ◌+◌, ◌==◌, ◌&&◌, ◌||◌, not, Bool, true, false, List, [], ◌∷◌, length, Option, Some, None}
+use Rattle.std.specs.List.{sum_by}
 use Rattle.acpi_regs.specs.declared.actor.Actor.{Actor}
 use Rattle.acpi_regs.specs.declared.actor.Actor.TheVariants as actor
 use Rattle.acpi_regs.specs.declared.actor.Side.{Side}
@@ -156,6 +157,14 @@ all_pulses lists phases n = sum_below (λ k. times_pulsed n (pulses_in (phases (
 
 abbrev pub all_clear : List (List Event) → (Actor → Phase) → Event → ℕ
 all_clear lists phases n = sum_below (λ k. times_clear n (pulses_in (phases (actor.Device k)))) (length lists)
+
+-- how many times an event stands in a list, and in the lists of all devices
+abbrev pub times : Event → List Event → ℕ
+times n [] = 0
+times n (x ∷ events) = one (same_event x n) + times n events
+
+abbrev pub listed_pulses : List (List Event) → Event → ℕ
+listed_pulses lists n = sum_by (times n) lists
 
 -- a device's pulses are the start of its list
 abbrev pub IsStart : List Event → List Pulse → Type 0
