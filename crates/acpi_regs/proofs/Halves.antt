@@ -3,7 +3,8 @@ use Rattle.std.proofs.Common.{ℕ, ◌+◌, ◌≤◌, ◌≡◌, ◌==◌, ◌|
 use Rattle.std.proofs.lemmas.Bool.{eqb-true}
 use Rattle.acpi_regs.specs.declared.phase.LockPhase.{LockPhase}
 use Rattle.acpi_regs.specs.declared.phase.LockPhase.TheVariants as phase
-use Rattle.acpi_regs.specs.CoreEvents.{acquired, is_pending, one, released, tried}
+use Rattle.acpi_regs.specs.CoreEvents.{one, tried}
+use Rattle.facs_word.specs.Word.{acquired, is_pending, released}
 use Rattle.acpi_regs.specs.CoreSound.{Agree, Half, holds, is_word, waits}
 use Rattle.acpi_regs.proofs.LockActors.{by_cases}
 

@@ -9,7 +9,8 @@ use Rattle.acpi_regs.specs.declared.entry.Entry.{Entry}
 use Rattle.acpi_regs.specs.declared.phase.LockPhase.{LockPhase}
 use Rattle.acpi_regs.specs.declared.phase.LockPhase.TheVariants as phase
 use Rattle.acpi_regs.specs.Actor.{same_actor, stands_on}
-use Rattle.acpi_regs.specs.CoreEvents.{acquired, entry, is_owned, is_pending, one, released, tried}
+use Rattle.acpi_regs.specs.CoreEvents.{entry, one, tried}
+use Rattle.facs_word.specs.Word.{acquired, is_owned, is_pending, released}
 use Rattle.acpi_regs.specs.CoreSound.{Agree, Fits, LockSound, competes, half, has_good_word, holds, is_signalled, phase_at, tells}
 use Rattle.acpi_regs.specs.Lock.{busies, busies_in, has_disowned, has_owned, is_busy, is_someone, leaves, other, owner, seeker, signals_in}
 use Rattle.acpi_regs.specs.Phases.{is_idle, is_lock_deed, is_owning}

@@ -15,7 +15,8 @@ use Rattle.acpi_regs.specs.declared.phase.LockPhase.{LockPhase}
 use Rattle.acpi_regs.specs.declared.phase.LockPhase.TheVariants as phase
 use Rattle.acpi_regs.specs.Actor.{same_actor}
 use Rattle.acpi_regs.specs.Core.{Core}
-use Rattle.acpi_regs.specs.CoreEvents.{Collect, CoreEvent, EachMay, Exchange, IsUnsought, Load, MayHappen, Pulses, Release, Turn, acquired, entry, exchanged, freed, happens, is_host, loaded, lock_deeds, may_add, moved_all, moved_in, one, past_in, pulsed, tried, turned}
+use Rattle.acpi_regs.specs.CoreEvents.{Collect, CoreEvent, EachMay, Exchange, IsUnsought, Load, MayHappen, Pulses, Release, Turn, entry, exchanged, freed, happens, is_host, loaded, lock_deeds, may_add, moved_all, moved_in, one, past_in, pulsed, tried, turned}
+use Rattle.facs_word.specs.Word.{acquired}
 use Rattle.acpi_regs.specs.CoreSound.{AreOfKind, Fits, LockSound, competes, is_kind, lock_phase, lock_phases}
 use Rattle.acpi_regs.specs.Lock.{seeker}
 use Rattle.acpi_regs.specs.Phases.{Free, Holding, Lock, Phase, Pulsed, first_phase, is_gone, is_idle, is_lock_deed, is_marked, is_owning, is_waiting, is_won, moved, put}

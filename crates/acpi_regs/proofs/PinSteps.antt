@@ -10,7 +10,8 @@ use Rattle.acpi_regs.specs.declared.phase.LockPhase.TheVariants as phase
 use Rattle.acpi_regs.specs.declared.phase.Pulse.{Pulse}
 use Rattle.acpi_regs.specs.Actor.{same_actor}
 use Rattle.acpi_regs.specs.Core.{Core, all_events, first_core, no_event}
-use Rattle.acpi_regs.specs.CoreEvents.{Collect, CoreEvent, Exchange, InRange, IsTurn, Load, MayHappen, OthersFree, Pulses, Release, Turn, acquired, collected, exchanged, happens, has_collected, in_hand, is_holding, is_host, list_of, loaded, next_pulse, one, past_in, pulsed, pulses_in, tried, turned}
+use Rattle.acpi_regs.specs.CoreEvents.{Collect, CoreEvent, Exchange, InRange, IsTurn, Load, MayHappen, OthersFree, Pulses, Release, Turn, collected, exchanged, happens, has_collected, in_hand, is_holding, is_host, list_of, loaded, next_pulse, one, past_in, pulsed, pulses_in, tried, turned}
+use Rattle.facs_word.specs.Word.{acquired}
 use Rattle.acpi_regs.specs.CoreSound.{CoreSound, IsStart, PinsSound, all_clear, all_pulses, hands, sum_below, times_clear, times_pulsed}
 use Rattle.acpi_regs.specs.Event.{event_rank, same_event, word_of}
 use Rattle.acpi_regs.specs.Phases.{Free, Holding, Lock, Phase, Pulsed, first_phase, put}

@@ -17,6 +17,7 @@ use Rattle.acpi_regs.specs.Core.{Core, all_events, events_of}
 use Rattle.acpi_regs.specs.Event.{event_rank, same_event, word_of}
 use Rattle.acpi_regs.specs.Lock.{seeker}
 use Rattle.acpi_regs.specs.Phases.{Free, Holding, Lock, Phase, Pulsed, allows, is_lock_deed, moved, put}
+use Rattle.facs_word.specs.Word.{acquired, is_owned, is_pending, released}
 
 pub data CoreEvent : Type 0 where
   Load : Actor → CoreEvent
@@ -35,22 +36,6 @@ one b = if b then 1 else 0
 -- the history, the newest entry first
 abbrev pub past_in : Core → List Entry
 past_in c = reverse c.history
-
--- ---- the word: bit 0 is Pending, bit 1 is Owned
-
-abbrev pub is_owned : ℕ → Bool
-is_owned word = (word == 2) || (word == 3)
-
-abbrev pub is_pending : ℕ → Bool
-is_pending word = (word == 1) || (word == 3)
-
--- the word that an exchange leaves: Owned alone where the lock was free, both bits where it was owned
-abbrev pub acquired : ℕ → ℕ
-acquired word = if is_owned word then 3 else 2
-
--- the word that a release leaves
-abbrev pub released : ℕ → ℕ
-released word = 0
 
 -- the phase after an exchange that found the loaded word
 abbrev pub tried : ℕ → LockPhase
