@@ -106,33 +106,33 @@ pub record Suits (m : MachineData) (past : List Entry) (a : Actor) (p : LockPhas
   pub no_latch : is_latch d ≡ false
   pub locked : IsLocked p d
 
-abbrev pub Plain : MachineData → List Entry → Actor → Deed → Type 0
-Plain m past a d = Allowed m past (entry a d) × (is_latch d ≡ false)
+abbrev Unlatched : MachineData → List Entry → Actor → Deed → Type 0
+Unlatched m past a d = Allowed m past (entry a d) × (is_latch d ≡ false)
 
-plain : (m : MachineData) (past : List Entry) (a : Actor) (d : Deed) → is_latch d ≡ false → Each (Plain m past a) (where_may m past a (Some d))
-plain m past a d no_latch = where_may-each (Plain m past a) m past a (Some d) (λ ok. (ok, no_latch))
+unlatched : (m : MachineData) (past : List Entry) (a : Actor) (d : Deed) → is_latch d ≡ false → Each (Unlatched m past a) (where_may m past a (Some d))
+unlatched m past a d no_latch = where_may-each (Unlatched m past a) m past a (Some d) (λ ok. (ok, no_latch))
 
-plain-map : {A : Type 0} (m : MachineData) (past : List Entry) (a : Actor) (make : A → Deed) → ((x : A) → is_latch (make x) ≡ false) → (o : Option A) → Each (Plain m past a) (where_may m past a (option_map make o))
-plain-map m past a make no_latch o = where_may-each (Plain m past a) m past a (option_map make o) (each-map (λ d. Allowed m past (entry a d) → Plain m past a d) make (λ x ok. (ok, no_latch x)) o)
+unlatched-map : {A : Type 0} (m : MachineData) (past : List Entry) (a : Actor) (make : A → Deed) → ((x : A) → is_latch (make x) ≡ false) → (o : Option A) → Each (Unlatched m past a) (where_may m past a (option_map make o))
+unlatched-map m past a make no_latch o = where_may-each (Unlatched m past a) m past a (option_map make o) (each-map (λ d. Allowed m past (entry a d) → Unlatched m past a d) make (λ x ok. (ok, no_latch x)) o)
 
-at_act-plain : (m : MachineData) (past : List Entry) (a : Actor) (x : Act) → Each (Plain m past a) (at_act m past a x)
-at_act-plain m past a act.Lock = plain m past a deed.Seek refl
-at_act-plain m past a act.Unlock = plain m past a deed.Disown refl
-at_act-plain m past a (act.Read c) = plain m past a (deed.Read c (value m past c)) refl
-at_act-plain m past a (act.Write c v) = plain m past a (deed.Write c v) refl
-at_act-plain m past a (act.Ask r) =
-    otherwise-each (Plain m past a) (where_may m past a (Some (deed.Begin r))) (otherwise (where_may m past a (option_map deed.Take (taking m past))) (where_may m past a (option_map deed.Step (host_move m past))))
-    (plain m past a (deed.Begin r) refl)
-    (otherwise-each (Plain m past a) (where_may m past a (option_map deed.Take (taking m past))) (where_may m past a (option_map deed.Step (host_move m past)))
-    (plain-map m past a deed.Take (λ x. refl) (taking m past))
-    (plain-map m past a deed.Step (λ x. refl) (host_move m past)))
-at_act-plain m past a (act.Notify d v) = plain m past a (deed.Notify d v) refl
-at_act-plain m past a (act.Drop n) = plain m past a (deed.Drop n) refl
-at_act-plain m past a (act.Up n) = plain m past a (deed.Up n) refl
-at_act-plain m past a (act.Down n) = plain m past a (deed.Down n) refl
-at_act-plain m past a (act.Raise n) = plain m past a (deed.Raise n) refl
-at_act-plain m past a (act.Assert n) = plain m past a (deed.Assert n) refl
-at_act-plain m past a (act.Push q) = plain m past a (deed.Push q) refl
+at_act-unlatched : (m : MachineData) (past : List Entry) (a : Actor) (x : Act) → Each (Unlatched m past a) (at_act m past a x)
+at_act-unlatched m past a act.Lock = unlatched m past a deed.Seek refl
+at_act-unlatched m past a act.Unlock = unlatched m past a deed.Disown refl
+at_act-unlatched m past a (act.Read c) = unlatched m past a (deed.Read c (value m past c)) refl
+at_act-unlatched m past a (act.Write c v) = unlatched m past a (deed.Write c v) refl
+at_act-unlatched m past a (act.Ask r) =
+    otherwise-each (Unlatched m past a) (where_may m past a (Some (deed.Begin r))) (otherwise (where_may m past a (option_map deed.Take (taking m past))) (where_may m past a (option_map deed.Step (host_move m past))))
+    (unlatched m past a (deed.Begin r) refl)
+    (otherwise-each (Unlatched m past a) (where_may m past a (option_map deed.Take (taking m past))) (where_may m past a (option_map deed.Step (host_move m past)))
+    (unlatched-map m past a deed.Take (λ x. refl) (taking m past))
+    (unlatched-map m past a deed.Step (λ x. refl) (host_move m past)))
+at_act-unlatched m past a (act.Notify d v) = unlatched m past a (deed.Notify d v) refl
+at_act-unlatched m past a (act.Drop n) = unlatched m past a (deed.Drop n) refl
+at_act-unlatched m past a (act.Up n) = unlatched m past a (deed.Up n) refl
+at_act-unlatched m past a (act.Down n) = unlatched m past a (deed.Down n) refl
+at_act-unlatched m past a (act.Raise n) = unlatched m past a (deed.Raise n) refl
+at_act-unlatched m past a (act.Assert n) = unlatched m past a (deed.Assert n) refl
+at_act-unlatched m past a (act.Push q) = unlatched m past a (deed.Push q) refl
 
 suits-map : {A : Type 0} (m : MachineData) (past : List Entry) (a : Actor) (p : LockPhase) (make : A → Deed) → ((x : A) → is_latch (make x) ≡ false) → ((x : A) → is_lock_deed (make x) ≡ false) → (o : Option A) → Each (Suits m past a p) (where_may m past a (option_map make o))
 suits-map m past a p make no_latch no_lock o =
@@ -153,7 +153,7 @@ at_script-suits m past a p None = by_idle (is_idle p)
     by_idle false = tt
 at_script-suits m past a p (Some x) =
     where_allowed-each (Suits m past a p) p (at_act m past a x)
-    (each-of (Plain m past a) (λ d. allows p d ≡ true → Suits m past a p d) (λ d is ok. record { allowed = is.0; no_latch = is.1; locked = allowed-locked p d ok }) (at_act m past a x) (at_act-plain m past a x))
+    (each-of (Unlatched m past a) (λ d. allows p d ≡ true → Suits m past a p d) (λ d is ok. record { allowed = is.0; no_latch = is.1; locked = allowed-locked p d ok }) (at_act m past a x) (at_act-unlatched m past a x))
 
 -- the entry that a phase names
 named : (m : MachineData) (past : List Entry) (a : Actor) (p : LockPhase) (d : Deed) → is_latch d ≡ false → lock_deed p ≡ Some d → Each (Suits m past a p) (where_may m past a (Some d))

@@ -1,10 +1,10 @@
 //! The pins of the world of one thread, as functions of events.
 ghost use Rattle.std.specs.Prelude.{◌≡◌, not};
 ghost use Rattle.acpi_regs.specs.Core.{no_event};
-ghost use Rattle.lock_table.specs.Bits.{IsEvent};
 ghost use Rattle.world.specs.Duties.{pinned};
 ghost use Rattle.world.specs.Serial.{collected, left, with_pin};
 
+use crate::laws::law_event;
 use acpi_regs::Event;
 use lock_table::Bits;
 
@@ -37,15 +37,5 @@ pub fn sweep(pins: &mut Bits, collect: bool) -> Bits
         found
     } else {
         none()
-    }
-}
-
-/// Each event has its place in the order in which events are served. The call costs nothing.
-fn law_event(event: Event)
-    ensures { IsEvent event }
-{
-    match event {
-        Event::Fixed(_) => {}
-        Event::Gpe(_) => {}
     }
 }
