@@ -1,5 +1,5 @@
 -- What is guessed from the text of an entry is that entry.
-use Rattle.std.proofs.Common.{◌⊎◌, inl, inr, take_all, ℕ, ◌+◌, ◌*◌, ◌/◌, ◌%◌, ◌^◌, ◌<◌, ◌≤◌, ◌≡◌, ◌==◌, Bool, true, false, cond, nat_lt, ◌∷◌, ◌++◌, take, decimal, Some, None, refl, sym, ◌∙◌, ap, arith}
+use Rattle.std.proofs.Common.{List, ◌⊎◌, inl, inr, take_all, ℕ, ◌+◌, ◌*◌, ◌/◌, ◌%◌, ◌^◌, ◌<◌, ◌≤◌, ◌≡◌, ◌==◌, Bool, true, false, cond, nat_lt, ◌∷◌, ◌++◌, take, decimal, Some, None, refl, sym, ◌∙◌, ap, arith}
 use Rattle.std.proofs.lemmas.Bool.{ltb-false, ltb-true, eqb-true}
 use Rattle.std.proofs.lemmas.Fmt.{decimal_digit, decimal_is_IsNumeral, length-decimal-le}
 use Rattle.std.specs.Str.Parse.{digits_value}
@@ -15,9 +15,10 @@ use Rattle.acpi_regs.specs.declared.entry.Request.TheVariants as request
 use Rattle.acpi_regs.specs.declared.event.Event.{Event}
 use Rattle.acpi_regs.specs.declared.event.Event.TheVariants as event
 use Rattle.acpi_regs.specs.declared.event.Fixed.TheVariants as fixed
-use Rattle.history_text.specs.Guess.{deed_guess, digit_guess, entry_guess, event_guess}
+use Rattle.history_text.specs.Guess.{deed_guess, digit_guess, entry_guess, event_guess, job_guess}
+use Rattle.history_text.specs.Lines.{IsEntryText, IsRestText, IsStuckText}
 use Rattle.history_text.specs.Named.{IsActor, IsDeed, IsEntry, IsEvent, OneEntry}
-use Rattle.history_text.specs.Text.{actor_text, deed_text, digit_text, entry_text, event_text}
+use Rattle.history_text.specs.Text.{actor_text, deed_text, digit_text, entry_text, event_text, rest_text, stuck_text}
 
 -- ---- digits and bytes
 
@@ -167,3 +168,28 @@ guess_same e ok = entry_same e.actor e.deed ok.0 ok.1
 
 pub one_entry : OneEntry
 one_entry e f e_ok f_ok same = sym (guess_same e e_ok) ∙ (ap entry_guess same ∙ guess_same f f_ok)
+
+-- where what is guessed has another text, the text is none
+pub none_entry : (line : List ℕ) (g : Entry) → g ≡ entry_guess line → (entry_text g ≡ line → ⊥) → IsEntryText line → ⊥
+none_entry line g is other found =
+    let same : entry_guess line ≡ found.0 = ap entry_guess (sym found.2) ∙ guess_same found.0 found.1 in
+    other (ap entry_text (is ∙ same) ∙ found.2)
+
+stuck_same : (n : Event) → IsEvent n → event_guess (stuck_text n) 6 ≡ n
+stuck_same n ok = event_same_6 n ok 115 116 117 99 107 32
+
+pub none_stuck : (line : List ℕ) (g : Event) → g ≡ event_guess line 6 → (stuck_text g ≡ line → ⊥) → IsStuckText line → ⊥
+none_stuck line g is other found =
+    let same : event_guess line 6 ≡ found.0 = ap (λ t. event_guess t 6) (sym found.2) ∙ stuck_same found.0 found.1 in
+    other (ap stuck_text (is ∙ same) ∙ found.2)
+
+pub none_rest : (line : List ℕ) (g : ℕ) → g ≡ job_guess line 5 → (rest_text g ≡ line → ⊥) → IsRestText line → ⊥
+none_rest line g is other found =
+    let same : job_guess line 5 ≡ found.0 = ap (λ t. job_guess t 5) (sym found.2) ∙ job_same found.0 found.1 in
+    other (ap rest_text (is ∙ same) ∙ found.2)
+
+pub one_stuck : (n k : Event) → IsEvent n → IsEvent k → stuck_text n ≡ stuck_text k → n ≡ k
+one_stuck n k n_ok k_ok same = sym (stuck_same n n_ok) ∙ (ap (λ t. event_guess t 6) same ∙ stuck_same k k_ok)
+
+pub one_rest : (n k : ℕ) → n < 2 ^ 32 → k < 2 ^ 32 → rest_text n ≡ rest_text k → n ≡ k
+one_rest n k n_ok k_ok same = sym (job_same n n_ok) ∙ (ap (λ t. job_guess t 5) same ∙ job_same k k_ok)

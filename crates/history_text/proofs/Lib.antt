@@ -1,3 +1,9 @@
+mod Above
+mod BadLines
+pub mod Described
+mod FirstLine
 mod Guesses
-mod Parked
+mod Numbers
+pub mod Parked
+mod Steps
 pub mod Writing

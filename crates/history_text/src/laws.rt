@@ -1,7 +1,41 @@
-//! Laws over the text of a log, for every entry. A law is a function with nothing to do, whose contract says it.
+//! Laws over the text of a log, for every entry, machine and history. A law is a function with nothing to do, whose contract
+//! says it.
+ghost use Rattle.std.specs.Prelude.{◌≤◌};
+ghost use Rattle.machine_desc.specs.Weight.{weight_of};
+ghost use Rattle.machine_reader.specs.Description.{limit};
+ghost use Rattle.history_text.specs.Laws.{NoBadLine, OneBadLine, OneLog, OneMachine, OneText};
+ghost use Rattle.history_text.specs.Lines.{IsReadBack};
 ghost use Rattle.history_text.specs.Named.{OneEntry};
+
+use machine_desc::Machine;
+use machine_reader::laws::law_read_back;
 
 /// No two entries have one text, where their actors have names and their numbers are of their types.
 pub fn law_one_entry()
     ensures { OneEntry }
 {}
+
+/// The lines of a log have no bad one, and other bytes have one first bad line at most.
+pub fn law_bad_lines()
+    ensures one { OneBadLine }
+    ensures none { NoBadLine }
+{}
+
+/// Bytes are the lines of one log at most.
+pub fn law_one_log()
+    ensures { OneLog }
+{}
+
+/// No two pairs of machine and history have one text.
+pub fn law_one_text()
+    ensures machine { OneMachine }
+    ensures pair { OneText }
+{}
+
+/// The canonical text of each machine whose weight is at most 1,048,576 describes it.
+pub fn law_canonical(machine: &Machine)
+    requires { weight_of machine.now ≤ limit }
+    ensures { IsReadBack machine.now }
+{
+    law_read_back(machine);
+}

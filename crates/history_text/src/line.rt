@@ -1,6 +1,6 @@
 ghost use Rattle.std.specs.Prelude.{◌≡◌, ◌+◌, ◌<◌, ◌≤◌, [], ◌∷◌, ◌++◌, List, ℕ, length, take, decimal};
 ghost use Rattle.history_text.specs.Named.{IsActor};
-ghost use Rattle.history_text.specs.Text.{byte_text, cell_text, actor_text, deed_text, digit_text, effect_text, entry_line, event_text, move_text, request_text, rest_line, stuck_line};
+ghost use Rattle.history_text.specs.Text.{byte_text, cell_text, actor_text, deed_text, digit_text, effect_text, entry_line, entry_text, event_text, move_text, request_text, rest_line, rest_text, stuck_line, stuck_text};
 
 use acpi_regs::{Actor, Cell, Deed, Effect, Entry, Event, Fixed, HostMove, Request};
 use arrayvec::ArrayVec;
@@ -298,15 +298,34 @@ impl Line {
     }
 }
 
-/// The line of an entry, with its newline.
-pub fn line_of_entry(entry: &Entry) -> Line
-    ensures { result ≡ entry_line entry.now }
+/// The text of an entry, without a newline.
+pub fn text_of_entry(entry: &Entry) -> Line
+    ensures text { result ≡ entry_text entry.now }
+    ensures len { length result < 48 }
 {
     let mut line = Line::new();
     line.push_actor(entry.actor);
     line.push(b' ');
     line.push_deed(entry.deed);
+    line
+}
+
+/// The line of an entry, with its newline.
+pub fn line_of_entry(entry: &Entry) -> Line
+    ensures { result ≡ entry_line entry.now }
+{
+    let mut line = text_of_entry(entry);
     line.push(b'\n');
+    line
+}
+
+/// The text of an event that is parked at the end, without a newline.
+pub fn text_of_stuck(event: Event) -> Line
+    ensures text { result ≡ stuck_text event }
+    ensures len { length result < 48 }
+{
+    let mut line = Line::new();
+    line.push_word_event(b"stuck ", event);
     line
 }
 
@@ -314,9 +333,18 @@ pub fn line_of_entry(entry: &Entry) -> Line
 pub fn line_of_stuck(event: Event) -> Line
     ensures { result ≡ stuck_line event }
 {
-    let mut line = Line::new();
-    line.push_word_event(b"stuck ", event);
+    let mut line = text_of_stuck(event);
     line.push(b'\n');
+    line
+}
+
+/// The text of the last line of a log of so many entries, without a newline.
+pub fn text_of_rest(entries: u32) -> Line
+    ensures text { result ≡ rest_text entries }
+    ensures len { length result < 48 }
+{
+    let mut line = Line::new();
+    line.push_word_number(b"rest ", entries);
     line
 }
 
@@ -324,8 +352,7 @@ pub fn line_of_stuck(event: Event) -> Line
 pub fn line_of_rest(entries: u32) -> Line
     ensures { result ≡ rest_line entries }
 {
-    let mut line = Line::new();
-    line.push_word_number(b"rest ", entries);
+    let mut line = text_of_rest(entries);
     line.push(b'\n');
     line
 }

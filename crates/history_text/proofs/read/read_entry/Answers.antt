@@ -1,0 +1,8 @@
+use Rattle.std.proofs.Common.{◌∙◌}
+use Rattle.std.proofs.lemmas.Bool.{iff_false}
+use Rattle.history_text.proofs.Guesses.{none_entry}
+use Rattle.history_text.proofs.read.read_entry.Goals as goal
+
+pub returns-else-same_text : goal.returns-else-same_text
+returns-else-same_text c =
+    none_entry c.args.line.now c.entry_guess-guess.result c.entry_guess-guess.ensures.value (λ same. iff_false c.same_text.ensures c.if-same_text.false (c.as_slice.ensures ∙ (c.text_of_entry.ensures.text ∙ same)))
