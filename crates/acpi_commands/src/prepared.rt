@@ -1,14 +1,23 @@
-ghost use Rattle.std.specs.Prelude.{◌≡◌, true};
+ghost use Rattle.std.specs.Prelude.{◌≡◌, map};
+ghost use Rattle.acpi_regs.specs.Core.{first_core};
+ghost use Rattle.machine_desc.specs.Actors.{actors_of};
 ghost use Rattle.machine_reader.specs.Canonical.{canonical};
-ghost use Rattle.acpi_commands.specs.Built.{is_built};
+ghost use Rattle.sci_threads.specs.Actors.{core_in, who};
 
-use machine_core::Board;
+use machine_desc::Machine;
+use sci_threads::AnyActor;
+use world::SerialWorld;
 
-/// A machine that is ready to run: its board, with all room taken, and its canonical text.
+/// A machine that is ready to run: the world with its board, its actors at their start, all room taken, and its canonical
+/// text.
 #[derive(Drop)]
 pub struct Prepared {
-    pub board: Board,
+    pub machine: Machine,
+    pub world: SerialWorld,
+    pub actors: Vec<AnyActor>,
     pub text: Vec<u8>,
-    ghost canonical_text: { text.items ≡ canonical board.machine },
-    ghost built: { is_built board.machine ≡ true },
+    ghost same: { world.board.machine ≡ machine },
+    ghost whole: { map who actors.items ≡ actors_of machine },
+    ghost first: { core_in world actors.items ≡ first_core },
+    ghost canonical_text: { text.items ≡ canonical machine },
 }
