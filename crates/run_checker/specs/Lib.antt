@@ -1,0 +1,3 @@
+pub mod Reasons
+pub mod Verdict
+pub mod Ends
