@@ -12,6 +12,8 @@ mod judge;
 mod reasons;
 mod replay;
 mod verdict;
+mod words;
 
 pub use judge::check;
 pub use verdict::Verdict;
+pub use words::rule_name;
