@@ -19,8 +19,6 @@ pub enum Status {
     BadMachine(BadMachine),
     /// The machine's weight is this, which is above 1,048,576.
     TooLong(u64),
-    /// The description is accepted, and the machine is not one that the program runs by now.
-    NotBuilt,
     /// A read of the source failed.
     ReadFault,
     /// A write to the sink failed.
@@ -41,7 +39,6 @@ impl Status {
             Status::Usage => 2,
             Status::NotJson | Status::BadShape(_) | Status::BadMachine(_) => 3,
             Status::TooLong(_) => 4,
-            Status::NotBuilt => 12,
             Status::ReadFault => 5,
             Status::WriteFault => 6,
             Status::Memory => 7,
