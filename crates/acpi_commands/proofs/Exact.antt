@@ -21,7 +21,6 @@ same exact status.NotJson status.NotJson h = refl
 same exact (status.BadShape x) (status.BadShape y) h = let e : x ≡ y = same_path x y h in cc
 same exact (status.BadMachine x) (status.BadMachine y) h = let e : x ≡ y = (exact x y).0 h in cc
 same exact (status.TooLong m) (status.TooLong n) h = search rules
-same exact status.NotBuilt status.NotBuilt h = refl
 same exact status.ReadFault status.ReadFault h = refl
 same exact status.WriteFault status.WriteFault h = refl
 same exact status.Memory status.Memory h = refl

@@ -1,3 +1,2 @@
 pub mod Exact
 pub mod RunLemmas
-pub mod Simple

@@ -1,5 +1,5 @@
 -- What follows from what a run did.
-use Rattle.std.proofs.Common.{◌≡◌, ℕ, ◌+◌, ◌≤◌, ◌⊎◌, inl, inr, Bool, true, false, cond, nat_lt, List, ◌++◌, length, Option, None, Some, Result, Ok, Err, String, Global, refl, sym, ap, ◌∙◌, subst, arith, length-append}
+use Rattle.std.proofs.Common.{◌≡◌, ℕ, ◌+◌, ◌≤◌, ◌⊎◌, inl, inr, Bool, true, false, cond, nat_lt, List, [], ◌∷◌, ◌++◌, length, reverse, Option, None, Some, Result, Ok, Err, String, Global, refl, sym, ap, ◌∙◌, subst, arith, length-append}
 use Rattle.std.specs.Io.KnownBytes.{Consumes, IsAtEnd}
 use Rattle.std.proofs.lemmas.Bool.{ltb-false}
 use Rattle.std.proofs.lemmas.List.{append-nil}
@@ -7,44 +7,78 @@ use Rattle.serde_json.specs.Data.{Data}
 use Rattle.acpi_regs.specs.declared.entry.Entry.{Entry}
 use Rattle.machine_desc.specs.declared.fault.BadMachine.{BadMachine}
 use Rattle.machine_desc.specs.declared.parts.MachineParts.{MachineParts}
+use Rattle.machine_desc.specs.Kept.{IsMachine}
 use Rattle.machine_desc.specs.Machine.{MachineData, described}
 use Rattle.machine_desc.specs.Rules.{first_fault}
 use Rattle.machine_desc.specs.Weight.{weight_of}
 use Rattle.machine_history.specs.Complete.{Complete}
-use Rattle.machine_history.proofs.ActsOnce.{scripts_once}
-use Rattle.machine_history.proofs.Owning.{reads_last}
+use Rattle.machine_history.specs.Exclusion.{AccessesByOwner, ReadsLast}
+use Rattle.machine_history.specs.Jobs.{jobs}
+use Rattle.machine_history.specs.Once.{JobsOnce, ScriptsOnce}
+use Rattle.machine_history.specs.Sentences.{ClaimsConsume, CodesInOrder, JobsDone, RunsAsGiven, codes_of, out_in, pushed_in}
+use Rattle.machine_history.specs.Wire.{codes, given, open_of}
 use Rattle.machine_reader.specs.declared.fault.ReaderFault.{ReaderFault}
 use Rattle.machine_reader.specs.declared.fault.ReaderFault.TheVariants as fault
 use Rattle.machine_reader.specs.Description.{Describes, IsJson, machine_in, unless_broken, unless_long, unless_misshapen}
 use Rattle.machine_reader.specs.Reading.{Reading}
 use Rattle.machine_reader.specs.Shape.{shape}
-use Rattle.acpi_commands.specs.Built.{is_built}
+use Rattle.acpi_commands.specs.declared.command.Command.{Command}
+use Rattle.acpi_commands.specs.declared.command.Command.TheVariants as command
 use Rattle.acpi_commands.specs.declared.status.Status.{Status}
 use Rattle.acpi_commands.specs.declared.status.Status.TheVariants as status
-use Rattle.acpi_commands.specs.Run.{Answers, Completes, FromBytes, IsRun, Ran, ReadsWhole, Refuses, limit, status_of}
+use Rattle.acpi_commands.specs.Headline.{OneRunEach, Ran}
+use Rattle.acpi_commands.specs.Run.{Answers, ByCommand, Completes, FromBytes, IsTaken, ReadsWhole, Refuses, status_of}
+use Rattle.acpi_commands.specs.Words.{IsCommand, limit_of, word_of}
 
--- a complete history of the machine that bytes describe
-pub ran : (bytes : List ℕ) (m : MachineData) (history : List Entry) → Describes bytes (Ok m) → Complete m history → Ran bytes m history
-ran bytes m history describes complete = record {
-  describes = describes;
-  complete = complete;
-  once = scripts_once m history complete;
-  last = reads_last m history complete.legal;
+-- ---- the sentences of the headline
+
+-- no code waits, and no query is open
+one_run : (m : MachineData) (history : List Entry) → Complete m history → CodesInOrder history → RunsAsGiven m (reverse history) → OneRunEach m history
+one_run m history complete pushed runs = record {
+  all_given = pushed ∙ (ap (λ rest. given (reverse history) ++ rest) complete.rest.no_code ∙ append-nil (given (reverse history)));
+  each_run = runs ∙ (ap (λ o. codes_of (jobs m (reverse history)) ++ out_in o) complete.rest.none_open ∙ append-nil (codes_of (jobs m (reverse history))));
 }
 
+-- a complete history of the machine that bytes describe
+pub ran : (bytes : List ℕ) (m : MachineData) (history : List Entry) → Describes bytes (Ok m) → Complete m history → ScriptsOnce m history → JobsOnce m history → JobsDone m history → ReadsLast m history → AccessesByOwner m history → CodesInOrder history → RunsAsGiven m (reverse history) → ClaimsConsume m history → Ran bytes m history
+ran bytes m history describes complete scripts_once jobs_once jobs_done last owner pushed runs consumes = record {
+  describes = describes;
+  complete = complete;
+  scripts_once = scripts_once;
+  jobs_once = jobs_once;
+  jobs_done = jobs_done;
+  last_value = last;
+  sole_owner = owner;
+  one_run = one_run m history complete pushed runs;
+  consumes = consumes;
+}
+
+-- ---- from the bytes to the command
+
 -- a status that rests on bytes which were read whole
-pub answers_from : (words : List (String Global)) (source_kept sink_kept : Type 0) (left left' held held' : Option (List ℕ)) (bytes : List ℕ) (s : Status) → IsRun words → ReadsWhole left left' bytes → FromBytes bytes sink_kept held held' s → Answers words source_kept sink_kept left left' held held' s
-answers_from words source_kept sink_kept left left' held held' bytes status.Ok run whole from = (run, (bytes, whole, from))
-answers_from words source_kept sink_kept left left' held held' bytes status.NotJson run whole from = (run, (bytes, whole, from))
-answers_from words source_kept sink_kept left left' held held' bytes (status.BadShape path) run whole from = (run, (bytes, whole, from))
-answers_from words source_kept sink_kept left left' held held' bytes (status.BadMachine bad) run whole from = (run, (bytes, whole, from))
-answers_from words source_kept sink_kept left left' held held' bytes (status.TooLong weight) run whole from = (run, (bytes, whole, from))
-answers_from words source_kept sink_kept left left' held held' bytes status.NotBuilt run whole from = (run, (bytes, whole, from))
-answers_from words source_kept sink_kept left left' held held' bytes status.WriteFault run whole from = (run, (bytes, whole, from))
-answers_from words source_kept sink_kept left left' held held' bytes status.Memory run whole from = (run, from.0, (bytes, whole.0, whole.1))
-answers_from words source_kept sink_kept left left' held held' bytes status.Usage run whole from = absurd from.1
-answers_from words source_kept sink_kept left left' held held' bytes status.ReadFault run whole from = absurd from.1
-answers_from words source_kept sink_kept left left' held held' bytes status.TooLarge run whole from = absurd from.1
+pub by_command : (c : Command) (sink_kept : Type 0) (left left' held held' : Option (List ℕ)) (bytes : List ℕ) (s : Status) → ReadsWhole (limit_of c) left left' bytes → FromBytes c bytes sink_kept held held' s → ByCommand c sink_kept left left' held held' s
+by_command c sink_kept left left' held held' bytes status.ReadFault whole from = absurd from.1
+by_command c sink_kept left left' held held' bytes status.TooLarge whole from = absurd from.1
+by_command c sink_kept left left' held held' bytes status.Memory whole from = (from.0, (bytes, whole.0, whole.1))
+by_command c sink_kept left left' held held' bytes status.Ok whole from = (bytes, whole, from)
+by_command c sink_kept left left' held held' bytes status.Usage whole from = (bytes, whole, from)
+by_command c sink_kept left left' held held' bytes status.NotJson whole from = (bytes, whole, from)
+by_command c sink_kept left left' held held' bytes (status.BadShape path) whole from = (bytes, whole, from)
+by_command c sink_kept left left' held held' bytes (status.BadMachine bad) whole from = (bytes, whole, from)
+by_command c sink_kept left left' held held' bytes (status.TooLong weight) whole from = (bytes, whole, from)
+by_command c sink_kept left left' held held' bytes status.WriteFault whole from = (bytes, whole, from)
+
+pub answered : (words : List (String Global)) (source_kept sink_kept : Type 0) (left left' held held' : Option (List ℕ)) (c : Command) (s : Status) → IsCommand words c → ByCommand c sink_kept left left' held held' s → Answers words source_kept sink_kept left left' held held' s
+answered words source_kept sink_kept left left' held held' c status.Usage is by = absurd by.2.1
+answered words source_kept sink_kept left left' held held' c status.Ok is by = (c, is, by)
+answered words source_kept sink_kept left left' held held' c status.NotJson is by = (c, is, by)
+answered words source_kept sink_kept left left' held held' c (status.BadShape path) is by = (c, is, by)
+answered words source_kept sink_kept left left' held held' c (status.BadMachine bad) is by = (c, is, by)
+answered words source_kept sink_kept left left' held held' c (status.TooLong weight) is by = (c, is, by)
+answered words source_kept sink_kept left left' held held' c status.ReadFault is by = (c, is, by)
+answered words source_kept sink_kept left left' held held' c status.WriteFault is by = (c, is, by)
+answered words source_kept sink_kept left left' held held' c status.Memory is by = (c, is, by)
+answered words source_kept sink_kept left left' held held' c status.TooLarge is by = (c, is, by)
 
 -- all bytes that a source tells were read
 whole_is : (bytes read : List ℕ) (left left' : Option (List ℕ)) → left ≡ Some bytes → Consumes left left' read → IsAtEnd left' → bytes ≡ read
@@ -89,22 +123,32 @@ not_refused bytes m f describes refused =
     let other : Err f ≡ Ok m = sym refused.2 ∙ (ap machine_in same ∙ describes.2) in
     cc
 
--- why the bytes of a machine that is built are not run: want of memory alone
-runs : (bytes : List ℕ) (m : MachineData) (s : Status) → Describes bytes (Ok m) → is_built m ≡ true → Refuses bytes s → s ≡ status.Memory
-runs bytes m status.NotJson describes built refuses = absurd (refuses describes.0 describes.1)
-runs bytes m (status.BadShape path) describes built refuses = absurd (not_refused bytes m (fault.BadShape path) describes refuses)
-runs bytes m (status.BadMachine bad) describes built refuses = absurd (not_refused bytes m (fault.BadMachine bad) describes refuses)
-runs bytes m (status.TooLong weight) describes built refuses = absurd (not_refused bytes m (fault.TooLong weight) describes refuses)
-runs bytes m status.NotBuilt describes built refuses =
-    let same = described_once bytes m refuses.0 describes refuses.1 in
-    let other : true ≡ false = sym built ∙ (ap is_built same ∙ refuses.2) in
-    absurd (let x = other in cc)
-runs bytes m status.Memory describes built refuses = refl
-runs bytes m status.Ok describes built refuses = absurd refuses
-runs bytes m status.Usage describes built refuses = absurd refuses
-runs bytes m status.ReadFault describes built refuses = absurd refuses
-runs bytes m status.WriteFault describes built refuses = absurd refuses
-runs bytes m status.TooLarge describes built refuses = absurd refuses
+-- ---- one command
+
+some_word : (x y : List ℕ) → x ∷ [] ≡ y ∷ [] → x ≡ y
+some_word x y same = cc
+
+one_word : (c d : Command) → word_of c ≡ word_of d → c ≡ d
+one_word command.Run command.Run same = refl
+one_word command.Replay command.Replay same = refl
+one_word command.Run command.Replay same = cc
+one_word command.Replay command.Run same = cc
+
+pub one_command : (words : List (String Global)) (c d : Command) → IsCommand words c → IsCommand words d → c ≡ d
+one_command words c d one other = one_word c d (some_word (word_of c) (word_of d) (sym one ∙ other))
+
+-- why the bytes of a machine are not taken: want of memory alone
+taken : (bytes : List ℕ) (m : MachineData) (s : Status) → Describes bytes (Ok m) → Refuses bytes s → s ≡ status.Memory
+taken bytes m status.NotJson describes refuses = absurd (refuses describes.0 describes.1)
+taken bytes m (status.BadShape path) describes refuses = absurd (not_refused bytes m (fault.BadShape path) describes refuses)
+taken bytes m (status.BadMachine bad) describes refuses = absurd (not_refused bytes m (fault.BadMachine bad) describes refuses)
+taken bytes m (status.TooLong weight) describes refuses = absurd (not_refused bytes m (fault.TooLong weight) describes refuses)
+taken bytes m status.Memory describes refuses = refl
+taken bytes m status.Ok describes refuses = absurd refuses
+taken bytes m status.Usage describes refuses = absurd refuses
+taken bytes m status.ReadFault describes refuses = absurd refuses
+taken bytes m status.WriteFault describes refuses = absurd refuses
+taken bytes m status.TooLarge describes refuses = absurd refuses
 
 -- ---- the weight of a machine that was read
 
@@ -135,25 +179,28 @@ refused bytes (fault.BadMachine bad) describes = describes
 refused bytes (fault.TooLong weight) describes = describes
 refused bytes fault.Memory describes = describes
 
--- each status has its cause, so what is accepted is run
+-- each status has its cause, so what is accepted is done
 pub completes : (words : List (String Global)) (source_kept sink_kept read_rose write_rose : Type 0) (left left' held held' : Option (List ℕ)) (s : Status) → Answers words source_kept sink_kept left left' held held' s → (s ≡ status.ReadFault → read_rose) → (s ≡ status.WriteFault → write_rose) → Completes words left read_rose write_rose s
-completes words source_kept sink_kept read_rose write_rose left left' held held' s answers read_cause write_cause = λ bytes m run told few describes built no_read no_write. by_status s answers read_cause write_cause bytes m run told few describes built no_read no_write
+completes words source_kept sink_kept read_rose write_rose left left' held held' s answers read_cause write_cause = λ c bytes is told few takes no_read no_write. by_status s answers read_cause write_cause c bytes is told few takes no_read no_write
   where
-    from_read : (s : Status) (bytes : List ℕ) (m : MachineData) → left ≡ Some bytes → Describes bytes (Ok m) → is_built m ≡ true → (read : List ℕ) → ReadsWhole left left' read → Refuses read s → s ≡ status.Memory
-    from_read s bytes m told describes built read whole refuses =
+    -- the bytes that were read are those that the source tells, for the command that the words are
+    from_read : (s : Status) (c d : Command) (bytes : List ℕ) → IsCommand words c → IsCommand words d → left ≡ Some bytes → IsTaken c bytes → (read : List ℕ) → ReadsWhole (limit_of d) left left' read → Refuses read s → s ≡ status.Memory
+    from_read s c d bytes is by told takes read whole refuses =
         let same = whole_is bytes read left left' told whole.1 whole.2 in
-        runs read m s (subst (λ b. Describes b (Ok m)) same describes) built refuses
+        taken read takes.0 s (subst (λ b. Describes b (Ok takes.0)) same takes.1) refuses
 
-    by_status : (s : Status) → Answers words source_kept sink_kept left left' held held' s → (s ≡ status.ReadFault → read_rose) → (s ≡ status.WriteFault → write_rose) → (bytes : List ℕ) (m : MachineData) → IsRun words → left ≡ Some bytes → length bytes ≤ limit → Describes bytes (Ok m) → is_built m ≡ true → (read_rose → ⊥) → (write_rose → ⊥) → (s ≡ status.Ok) ⊎ (s ≡ status.Memory)
-    by_status status.Ok answers read_cause write_cause bytes m run told few describes built no_read no_write = inl refl
-    by_status status.Usage answers read_cause write_cause bytes m run told few describes built no_read no_write = absurd (answers.0 run)
-    by_status status.ReadFault answers read_cause write_cause bytes m run told few describes built no_read no_write = absurd (no_read (read_cause refl))
-    by_status status.WriteFault answers read_cause write_cause bytes m run told few describes built no_read no_write = absurd (no_write (write_cause refl))
-    by_status status.Memory answers read_cause write_cause bytes m run told few describes built no_read no_write = inr refl
-    by_status status.TooLarge answers read_cause write_cause bytes m run told few describes built no_read no_write =
-        absurd (too_many (length answers.2.0) (length bytes) limit answers.2.1 (taken_within bytes answers.2.0 left left' told answers.2.2) few)
-    by_status status.NotJson answers read_cause write_cause bytes m run told few describes built no_read no_write = inr (from_read status.NotJson bytes m told describes built answers.1.0 answers.1.1 answers.1.2.1)
-    by_status (status.BadShape path) answers read_cause write_cause bytes m run told few describes built no_read no_write = inr (from_read (status.BadShape path) bytes m told describes built answers.1.0 answers.1.1 answers.1.2.1)
-    by_status (status.BadMachine bad) answers read_cause write_cause bytes m run told few describes built no_read no_write = inr (from_read (status.BadMachine bad) bytes m told describes built answers.1.0 answers.1.1 answers.1.2.1)
-    by_status (status.TooLong weight) answers read_cause write_cause bytes m run told few describes built no_read no_write = inr (from_read (status.TooLong weight) bytes m told describes built answers.1.0 answers.1.1 answers.1.2.1)
-    by_status status.NotBuilt answers read_cause write_cause bytes m run told few describes built no_read no_write = inr (from_read status.NotBuilt bytes m told describes built answers.1.0 answers.1.1 answers.1.2.1)
+    too_long : (c d : Command) (bytes : List ℕ) → IsCommand words c → IsCommand words d → left ≡ Some bytes → length bytes ≤ limit_of c → (read : List ℕ) → length read ≡ limit_of d + 1 → Consumes left left' read → ⊥
+    too_long c d bytes is by told few read exact consumed =
+        too_many (length read) (length bytes) (limit_of c) (exact ∙ ap (λ x. limit_of x + 1) (one_command words d c by is)) (taken_within bytes read left left' told consumed) few
+
+    by_status : (s : Status) → Answers words source_kept sink_kept left left' held held' s → (s ≡ status.ReadFault → read_rose) → (s ≡ status.WriteFault → write_rose) → (c : Command) (bytes : List ℕ) → IsCommand words c → left ≡ Some bytes → length bytes ≤ limit_of c → IsTaken c bytes → (read_rose → ⊥) → (write_rose → ⊥) → (s ≡ status.Ok) ⊎ (s ≡ status.Memory)
+    by_status status.Ok answers read_cause write_cause c bytes is told few takes no_read no_write = inl refl
+    by_status status.Usage answers read_cause write_cause c bytes is told few takes no_read no_write = absurd (answers.0 c is)
+    by_status status.ReadFault answers read_cause write_cause c bytes is told few takes no_read no_write = absurd (no_read (read_cause refl))
+    by_status status.WriteFault answers read_cause write_cause c bytes is told few takes no_read no_write = absurd (no_write (write_cause refl))
+    by_status status.Memory answers read_cause write_cause c bytes is told few takes no_read no_write = inr refl
+    by_status status.TooLarge answers read_cause write_cause c bytes is told few takes no_read no_write = absurd (too_long c answers.0 bytes is answers.1 told few answers.2.1.0 answers.2.1.1 answers.2.1.2)
+    by_status status.NotJson answers read_cause write_cause c bytes is told few takes no_read no_write = inr (from_read status.NotJson c answers.0 bytes is answers.1 told takes answers.2.0 answers.2.1 answers.2.2.1)
+    by_status (status.BadShape path) answers read_cause write_cause c bytes is told few takes no_read no_write = inr (from_read (status.BadShape path) c answers.0 bytes is answers.1 told takes answers.2.0 answers.2.1 answers.2.2.1)
+    by_status (status.BadMachine bad) answers read_cause write_cause c bytes is told few takes no_read no_write = inr (from_read (status.BadMachine bad) c answers.0 bytes is answers.1 told takes answers.2.0 answers.2.1 answers.2.2.1)
+    by_status (status.TooLong weight) answers read_cause write_cause c bytes is told few takes no_read no_write = inr (from_read (status.TooLong weight) c answers.0 bytes is answers.1 told takes answers.2.0 answers.2.1 answers.2.2.1)

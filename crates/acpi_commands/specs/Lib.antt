@@ -1,3 +1,4 @@
-pub mod Built
 pub mod Ending
+pub mod Headline
 pub mod Run
+pub mod Words

@@ -2,23 +2,20 @@
 //! history of what happened as a log to a sink.
 //!
 //! All of it stands in [`acpi_events`], a call over any source and sink whose contract says what each status means
-//! (`specs/Run.antt`). [`end`] then tells a refusal and gives the exit code (`specs/Ending.antt`). The program's
-//! `main`, which hands these the words and the standard streams, is a crate of its own. The crate stands on
-//! `machine_reader`, which reads descriptions and writes them, on `machine_core`, whose board keeps the history legal, on
-//! `history_text`, which writes it, and on `acpi_io`. Which machines run by now is `specs/Built.antt`.
+//! (`specs/Run.antt`), by the words of the program (`specs/Words.antt`). What a log says of its machine is
+//! `specs/Headline.antt`, sentence by sentence. [`end`] then tells a refusal and gives the exit code (`specs/Ending.antt`).
+//! The program's `main`, which hands these the words and the standard streams, is a crate of its own. The crate stands on
+//! `machine_reader`, which reads descriptions and writes them, on `sci_threads`, which runs a machine's actors to their end,
+//! on `history_text`, which writes the log, and on `acpi_io`.
 #![tactic(auto)]
 
-mod built;
+mod command;
 mod ending;
 pub mod laws;
 mod names;
-mod play;
-mod prepared;
 mod program;
 mod run;
 mod status;
-#[cfg(test)]
-mod tests;
 
 pub use ending::end;
 pub use program::acpi_events;

@@ -16,7 +16,6 @@ pub fn name_of(status: &Status) -> &'static str
         Status::BadShape(_) => "BadShape",
         Status::BadMachine(_) => "BadMachine",
         Status::TooLong(_) => "TooLong",
-        Status::NotBuilt => "NotBuilt",
         Status::ReadFault => "ReadFault",
         Status::WriteFault => "WriteFault",
         Status::Memory => "Memory",

@@ -1,23 +1,23 @@
-ghost use Rattle.std.specs.Prelude.{◌≡◌, ◌+◌, ◌≤◌, ◌↔◌, IsTrue};
+ghost use Rattle.std.specs.Prelude.{◌≡◌, ◌+◌, ◌≤◌};
 ghost use Rattle.acpi_io.specs.Faults.{RoseByOne};
-ghost use Rattle.acpi_commands.specs.Run.{Answers, Completes, IsRun, limit};
+ghost use Rattle.acpi_commands.specs.declared.command.Command.{Command};
+ghost use Rattle.acpi_commands.specs.Run.{Answers, ByCommand, Completes};
+ghost use Rattle.acpi_commands.specs.Words.{IsCommand, limit_of};
 
+use crate::command::{Command, command_of};
 use crate::run::run;
 use crate::status::Status;
 use acpi_io::{ReadAllFault, Sink, Source, read_all};
 use std::alloc::Global;
 
-/// The greatest number of bytes in a description.
-const MAX_DESCRIPTION: usize = 4_194_304;
-
 /// Does what the words say, and answers how it went.
 ///
-/// The one command is `run`: it reads a description from the source, runs its machine, and writes the log of what
-/// happened to the sink. Refusals come in this order: `Usage`; `ReadFault` or `TooLarge`, as the reading meets them;
-/// `NotJson`; `BadShape`; `BadMachine`; `TooLong`; `NotBuilt`; `WriteFault`. `Memory` may come in place of each but
-/// `Usage`, before the machine runs, and only where the word is `run`, no read failed and no more bytes were taken than a
-/// description may have. After every refusal but `WriteFault` nothing was written, and after that one a front of the log
-/// was.
+/// The word `run` reads a description from the source, runs its machine in rounds of its actors, and writes the log of what
+/// happened to the sink. The word `replay` does the same, and gives each name of the description's schedule a step first.
+/// Refusals come in this order: `Usage`; `ReadFault` or `TooLarge`, as the reading meets them; `NotJson`; `BadShape`;
+/// `BadMachine`; `TooLong`; `WriteFault`. `Memory` may come in place of each but `Usage`, before the machine runs, and only
+/// where the words are a command, no read failed and no more bytes were taken than a description may have. After every refusal
+/// but `WriteFault` nothing was written, and after that one a front of the log was.
 pub fn acpi_events<S: Source, K: Sink>(
     alloc: Global,
     words: &[String],
@@ -39,14 +39,15 @@ pub fn acpi_events<S: Source, K: Sink>(
     ensures write_told { ¬ result ≡ Status.WriteFault
         → K.faults sink.new ≡ K.faults sink.old }
 
-    // What is accepted is run, where memory suffices.
+    // What is accepted is done, where memory suffices.
     ensures completes { Completes words.now (S.left source.old)
         (RoseByOne (S.faults source.old) (S.faults source.new))
         (RoseByOne (K.faults sink.old) (K.faults sink.new)) result }
 
     ensures source_later { S.faults source.old ≤ S.faults source.new }
     ensures sink_later { K.faults sink.old ≤ K.faults sink.new }
-    ensures reads { S.reads source.new ≤ S.reads source.old + (limit + 1) }
+    ensures reads { (c : Command) → IsCommand words.now c
+        → S.reads source.new ≤ S.reads source.old + (limit_of c + 1) }
 {
     answer(alloc, words, source, sink)
 }
@@ -70,25 +71,40 @@ fn answer<S: Source, K: Sink>(
         → K.faults sink.new ≡ K.faults sink.old }
     ensures source_later { S.faults source.old ≤ S.faults source.new }
     ensures sink_later { K.faults sink.old ≤ K.faults sink.new }
-    ensures reads { S.reads source.new ≤ S.reads source.old + (limit + 1) }
+    ensures reads { (c : Command) → IsCommand words.now c
+        → S.reads source.new ≤ S.reads source.old + (limit_of c + 1) }
 {
-    if !is_run(words) {
-        return Status::Usage;
-    }
-    match read_all(alloc, source, MAX_DESCRIPTION) {
-        Ok(bytes) => run(alloc, &bytes, sink),
-        Err(ReadAllFault::ReadFault) => Status::ReadFault,
-        Err(ReadAllFault::TooLarge) => Status::TooLarge,
-        Err(ReadAllFault::Memory) => Status::Memory,
+    match command_of(words) {
+        Some(command) => carry_out(alloc, command, source, sink),
+        None => Status::Usage,
     }
 }
 
-/// Whether the words are exactly the word `run`.
-fn is_run(words: &[String]) -> bool
-    ensures { IsTrue result ↔ IsRun words.now }
+/// Reads what a command takes, and does it.
+fn carry_out<S: Source, K: Sink>(
+    alloc: Global,
+    command: Command,
+    source: &mut S,
+    sink: &mut K,
+) -> Status
+    ensures answers { ByCommand command (sink.new ≡ sink.old)
+        (S.left source.old) (S.left source.new) (K.held sink.old) (K.held sink.new) result }
+    ensures read_fault { result ≡ Status.ReadFault
+        → RoseByOne (S.faults source.old) (S.faults source.new) }
+    ensures write_fault { result ≡ Status.WriteFault
+        → RoseByOne (K.faults sink.old) (K.faults sink.new) }
+    ensures read_told { ¬ result ≡ Status.ReadFault
+        → S.faults source.new ≡ S.faults source.old }
+    ensures write_told { ¬ result ≡ Status.WriteFault
+        → K.faults sink.new ≡ K.faults sink.old }
+    ensures source_later { S.faults source.old ≤ S.faults source.new }
+    ensures sink_later { K.faults sink.old ≤ K.faults sink.new }
+    ensures reads { S.reads source.new ≤ S.reads source.old + (limit_of command + 1) }
 {
-    match words {
-        [word] => word.as_str() == "run",
-        _ => false,
+    match read_all(alloc, source, command.limit()) {
+        Ok(bytes) => run(alloc, command, &bytes, sink),
+        Err(ReadAllFault::ReadFault) => Status::ReadFault,
+        Err(ReadAllFault::TooLarge) => Status::TooLarge,
+        Err(ReadAllFault::Memory) => Status::Memory,
     }
 }

@@ -1,8 +1,8 @@
 ghost use Rattle.std.specs.Prelude.{◌≡◌};
-ghost use Rattle.acpi_commands.specs.Run.{code_of};
+ghost use Rattle.acpi_commands.specs.Run.{code_of, status_of};
 
 use machine_desc::BadMachine;
-use machine_reader::PathText;
+use machine_reader::{PathText, ReaderFault};
 
 /// What a call of the program came to.
 #[derive(Debug, Drop, PartialEq)]
@@ -19,8 +19,6 @@ pub enum Status {
     BadMachine(BadMachine),
     /// The machine's weight is this, which is above 1,048,576.
     TooLong(u64),
-    /// The description is accepted, and the machine is not one that the program runs by now.
-    NotBuilt,
     /// A read of the source failed.
     ReadFault,
     /// A write to the sink failed.
@@ -41,11 +39,25 @@ impl Status {
             Status::Usage => 2,
             Status::NotJson | Status::BadShape(_) | Status::BadMachine(_) => 3,
             Status::TooLong(_) => 4,
-            Status::NotBuilt => 12,
             Status::ReadFault => 5,
             Status::WriteFault => 6,
             Status::Memory => 7,
             Status::TooLarge => 9,
+        }
+    }
+}
+
+/// A fault of the reader of descriptions is the status of its name.
+impl From<ReaderFault> for Status {
+    fn from(fault: ReaderFault) -> Status
+        ensures { result ≡ status_of fault }
+    {
+        match fault {
+            ReaderFault::NotJson => Status::NotJson,
+            ReaderFault::BadShape(path) => Status::BadShape(path),
+            ReaderFault::BadMachine(bad) => Status::BadMachine(bad),
+            ReaderFault::TooLong(weight) => Status::TooLong(weight),
+            ReaderFault::Memory => Status::Memory,
         }
     }
 }

@@ -22,6 +22,3 @@ mod wire;
 
 pub use board::Board;
 pub use machine_history::LogRule;
-
-#[cfg(test)]
-mod tests;

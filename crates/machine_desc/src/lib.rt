@@ -28,6 +28,3 @@ pub use fault::{BadMachine, MachineError, Part, Place, Rule, Spot};
 pub use items::Items;
 pub use machine::{ControllerDesc, ListedEvent, Machine, Query};
 pub use parts::{ControllerPart, EventPart, FieldPart, MachineParts, QueryPart, RegionPart};
-
-#[cfg(test)]
-mod tests;

@@ -27,28 +27,28 @@ pub upto-zero : (n : ℕ) → upto (λ k. 0) n ≡ 0
 upto-zero zero = refl
 upto-zero (suc n) = let before = upto-zero n in omega arith
 
-abbrev hit : ℕ → ℕ → ℕ → ℕ
+abbrev pub hit : ℕ → ℕ → ℕ → ℕ
 hit j x k = when (k == j) x
 
-when_small : (b : Bool) (x : ℕ) → when b x ≤ x
+pub when_small : (b : Bool) (x : ℕ) → when b x ≤ x
 when_small true x = omega arith
 when_small false x = omega arith
 
-hit-below : (j x n : ℕ) → n ≤ j → upto (hit j x) n ≡ 0
+pub hit-below : (j x n : ℕ) → n ≤ j → upto (hit j x) n ≡ 0
 hit-below j x zero below = refl
 hit-below j x (suc n) below =
     let rest = hit-below j x n (omega arith) in
     let none : hit j x n ≡ 0 = ap (λ b. when b x) (ne_eqb n j (λ same. omega arith)) in
     omega arith
 
-hit-once : (j x n : ℕ) → upto (hit j x) n ≤ x
+pub hit-once : (j x n : ℕ) → upto (hit j x) n ≤ x
 hit-once j x zero = omega arith
 hit-once j x (suc n) = elim (cases_eq n j) [
   | inl same ↦ (let rest = hit-below j x n (omega (arith, same)) in let one = when_small (n == j) x in omega arith)
   | inr other ↦ (let rest = hit-once j x n in let none : hit j x n ≡ 0 = ap (λ b. when b x) (ne_eqb n j other) in omega arith)
 ]
 
-hit-there : (j x n : ℕ) → j < n → x ≤ upto (hit j x) n
+pub hit-there : (j x n : ℕ) → j < n → x ≤ upto (hit j x) n
 hit-there j x zero below = absurd (omega arith)
 hit-there j x (suc n) below = elim (cases_eq n j) [
   | inl same ↦ (let here : hit j x n ≡ x = ap (λ b. when b x) (eq-eqb n j same) in omega arith)
@@ -73,10 +73,10 @@ over-le m f g less =
     omega arith
 
 -- what an entry of an actor counts, given to that actor
-abbrev share : Actor → ℕ → Actor → ℕ
+abbrev pub share : Actor → ℕ → Actor → ℕ
 share b x a = when (same_actor a b) x
 
-share_once : (m : MachineData) (b : Actor) (x : ℕ) → over m (share b x) ≤ x
+pub share_once : (m : MachineData) (b : Actor) (x : ℕ) → over m (share b x) ≤ x
 share_once m (actor.Worker j) x = let one = hit-once j x m.workers in let none = upto-zero (length m.firmware) in omega arith
 share_once m (actor.Firmware j) x = let one = hit-once j x (length m.firmware) in let none = upto-zero m.workers in omega arith
 share_once m actor.Int x = let none = upto-zero (length m.firmware) in let nobody = upto-zero m.workers in omega arith
@@ -84,15 +84,15 @@ share_once m actor.Poll x = let none = upto-zero (length m.firmware) in let nobo
 share_once m actor.Ec x = let none = upto-zero (length m.firmware) in let nobody = upto-zero m.workers in omega arith
 share_once m (actor.Device j) x = let none = upto-zero (length m.firmware) in let nobody = upto-zero m.workers in omega arith
 
-share_firmware : (m : MachineData) (b : Actor) (x : ℕ) → is_firmware m b ≡ true → x ≤ upto (λ k. share b x (actor.Firmware k)) (length m.firmware)
+pub share_firmware : (m : MachineData) (b : Actor) (x : ℕ) → is_firmware m b ≡ true → x ≤ upto (λ k. share b x (actor.Firmware k)) (length m.firmware)
 share_firmware m (actor.Firmware j) x is = hit-there j x (length m.firmware) (ltb-true j (length m.firmware) is)
 share_firmware m _ x is = cc
 
-share_worker : (m : MachineData) (b : Actor) (x : ℕ) → is_worker m b ≡ true → x ≤ upto (λ k. share b x (actor.Worker k)) m.workers
+pub share_worker : (m : MachineData) (b : Actor) (x : ℕ) → is_worker m b ≡ true → x ≤ upto (λ k. share b x (actor.Worker k)) m.workers
 share_worker m (actor.Worker j) x is = hit-there j x m.workers (ltb-true j m.workers is)
 share_worker m _ x is = cc
 
-share_there : (m : MachineData) (b : Actor) (x : ℕ) → runs_scripts m b ≡ true → x ≤ over m (share b x)
+pub share_there : (m : MachineData) (b : Actor) (x : ℕ) → runs_scripts m b ≡ true → x ≤ over m (share b x)
 share_there m b x is = elim (or_cases (is_worker m b) (is_firmware m b) is) [
   | inl worker ↦ (let most = share_worker m b x worker in omega arith)
   | inr firmware ↦ (let most = share_firmware m b x firmware in omega arith)

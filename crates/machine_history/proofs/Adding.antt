@@ -50,7 +50,7 @@ abbrev pub claim_of : Deed → ℕ
 claim_of (deed.Claim n) = 1
 claim_of _ = 0
 
-class : (d : Deed) → 1 + (8 * is_seek d + begins_price request_entries d) ≡ charge entries_price d + (is_seek d + (is_episode d + (is_woken d + (is_wire d + (latch_of d + (claim_of d + (is_start d + is_finish d)))))))
+pub class : (d : Deed) → 1 + (8 * is_seek d + begins_price request_entries d) ≡ charge entries_price d + (is_seek d + (is_episode d + (is_woken d + (is_wire d + (latch_of d + (claim_of d + (is_start d + is_finish d)))))))
 class deed.Seek = refl
 class deed.Busy = refl
 class deed.Woken = refl
@@ -67,15 +67,15 @@ classes (e ∷ past) = let rest = classes past in let one_more = class e.deed in
 
 -- ---- latches
 
-abbrev latched_by : Deed → List Event → List Event
+abbrev pub latched_by : Deed → List Event → List Event
 latched_by (deed.Latch n) old = n ∷ old
 latched_by _ old = old
 
-abbrev latched : List Entry → List Event
+abbrev pub latched : List Entry → List Event
 latched [] = []
 latched (e ∷ past) = latched_by e.deed (latched past)
 
-latched-length : (past : List Entry) → length (latched past) ≡ total (by_deed latch_of) past
+pub latched-length : (past : List Entry) → length (latched past) ≡ total (by_deed latch_of) past
 latched-length [] = refl
 latched-length (e ∷ past) = at e.deed (latched-length past)
   where
@@ -83,7 +83,7 @@ latched-length (e ∷ past) = at e.deed (latched-length past)
     at (deed.Latch n) rest = omega arith
     at _ rest = omega arith
 
-latched-times : (n : Event) (past : List Entry) → times n (latched past) ≡ total (by_deed (latch_in n)) past
+pub latched-times : (n : Event) (past : List Entry) → times n (latched past) ≡ total (by_deed (latch_in n)) past
 latched-times n [] = refl
 latched-times n (e ∷ past) = at e.deed (latched-times n past)
   where
@@ -91,27 +91,27 @@ latched-times n (e ∷ past) = at e.deed (latched-times n past)
     at (deed.Latch x) rest = omega arith
     at _ rest = omega arith
 
-abbrev all_pulses : List (List Event) → List Event
+abbrev pub all_pulses : List (List Event) → List Event
 all_pulses [] = []
 all_pulses (list ∷ lists) = list ++ all_pulses lists
 
-times-append : (n : Event) (xs ys : List Event) → times n (xs ++ ys) ≡ times n xs + times n ys
+pub times-append : (n : Event) (xs ys : List Event) → times n (xs ++ ys) ≡ times n xs + times n ys
 times-append n [] ys = omega arith
 times-append n (x ∷ xs) ys = let rest = times-append n xs ys in omega arith
 
-pulses-times : (n : Event) (lists : List (List Event)) → times n (all_pulses lists) ≡ sum_of (times n) lists
+pub pulses-times : (n : Event) (lists : List (List Event)) → times n (all_pulses lists) ≡ sum_of (times n) lists
 pulses-times n [] = refl
 pulses-times n (list ∷ lists) = let rest = pulses-times n lists in let first = times-append n list (all_pulses lists) in omega arith
 
-pulses-length : (lists : List (List Event)) → length (all_pulses lists) ≡ sum_of length lists
+pub pulses-length : (lists : List (List Event)) → length (all_pulses lists) ≡ sum_of length lists
 pulses-length [] = refl
 pulses-length (list ∷ lists) = let rest = pulses-length lists in let first = length-append list (all_pulses lists) in omega arith
 
 -- one of an event is taken away
-abbrev Without : Event → List Event → Type 0
+abbrev pub Without : Event → List Event → Type 0
 Without x ys = (zs : List Event) × (length ys ≡ 1 + length zs) × ((n : Event) → times n ys ≡ one (same_event x n) + times n zs)
 
-without : (x : Event) (ys : List Event) → 1 ≤ times x ys → Without x ys
+pub without : (x : Event) (ys : List Event) → 1 ≤ times x ys → Without x ys
 without x [] some = absurd (omega arith)
 without x (y ∷ ys) some = at (same_event y x) refl (without x ys)
   where
@@ -125,7 +125,7 @@ without x (y ∷ ys) some = at (same_event y x) refl (without x ys)
     at true same rest = (ys, omega arith, λ n. ap (λ z. one (same_event z n) + times n ys) (same_event-true y x same))
     at false other rest = later (rest (skipped other))
 
-few_length : (xs ys : List Event) → ((n : Event) → times n xs ≤ times n ys) → length xs ≤ length ys
+pub few_length : (xs ys : List Event) → ((n : Event) → times n xs ≤ times n ys) → length xs ≤ length ys
 few_length [] ys less = omega arith
 few_length (x ∷ xs) ys less =
     let here : one (same_event x x) ≡ 1 = ap one (same_event-self x) in
@@ -148,11 +148,11 @@ all_latches m past legal =
 abbrev pub listed_part : (ListedEvent → ℕ) → MachineData → List ListedEvent → Count
 listed_part g m ls past e = sum_of (λ (l : ListedEvent). takes m l.listed.event past e * g l) ls
 
-no-part : (g : ListedEvent → ℕ) (ls : List ListedEvent) → sum_of (λ l. 0 * g l) ls ≡ 0
+pub no-part : (g : ListedEvent → ℕ) (ls : List ListedEvent) → sum_of (λ l. 0 * g l) ls ≡ 0
 no-part g [] = refl
 no-part g (l ∷ ls) = let rest = no-part g ls in omega arith
 
-part-plus : (a b g : ListedEvent → ℕ) (ls : List ListedEvent) → sum_of (λ l. (a l + b l) * g l) ls ≡ sum_of (λ l. a l * g l) ls + sum_of (λ l. b l * g l) ls
+pub part-plus : (a b g : ListedEvent → ℕ) (ls : List ListedEvent) → sum_of (λ l. (a l + b l) * g l) ls ≡ sum_of (λ l. a l * g l) ls + sum_of (λ l. b l * g l) ls
 part-plus a b g [] = refl
 part-plus a b g (l ∷ ls) = let rest = part-plus a b g ls in let out = add-mul (a l) (b l) (g l) in omega arith
 
@@ -184,7 +184,7 @@ listed_worth b c l = b + c l.script
 abbrev pub code_worth : ℕ → (List Op → ℕ) → MachineData → ℕ → ℕ
 code_worth b c m k = b + c (code_script m k)
 
-made_claim : (b : ℕ) (c : List Op → ℕ) (q : ℕ) (m : MachineData) (queue : List ℕ) (n : Event) → made_worth (worth b c q m) (claimed_job m queue n) ≤ sum_of (λ (l : ListedEvent). one (same_event n l.listed.event) * listed_worth b c l) m.events + is_query_job (claimed_job m queue n) * (b + q)
+pub made_claim : (b : ℕ) (c : List Op → ℕ) (q : ℕ) (m : MachineData) (queue : List ℕ) (n : Event) → made_worth (worth b c q m) (claimed_job m queue n) ≤ sum_of (λ (l : ListedEvent). one (same_event n l.listed.event) * listed_worth b c l) m.events + is_query_job (claimed_job m queue n) * (b + q)
 made_claim b c q m queue n = at (lists m n) refl (is_own m n && not (is_empty queue))
   where
     at : (x : Bool) → lists m n ≡ x → (y : Bool) → made_worth (worth b c q m) (if x then Some (job.Event n) else if y then Some job.Query else None) ≤ sum_of (λ (l : ListedEvent). one (same_event n l.listed.event) * listed_worth b c l) m.events + is_query_job (if x then Some (job.Event n) else if y then Some job.Query else None) * (b + q)
@@ -192,7 +192,7 @@ made_claim b c q m queue n = at (lists m n) refl (is_own m n && not (is_empty qu
     at false unlisted true = omega arith
     at false unlisted false = omega arith
 
-made_take : (b : ℕ) (c : List Op → ℕ) (q : ℕ) (m : MachineData) (o : Option Open) (v : Option ℕ) → made_worth (worth b c q m) (taken_job o v) ≡ code_price (code_worth b c m) (taken_job o v)
+pub made_take : (b : ℕ) (c : List Op → ℕ) (q : ℕ) (m : MachineData) (o : Option Open) (v : Option ℕ) → made_worth (worth b c q m) (taken_job o v) ≡ code_price (code_worth b c m) (taken_job o v)
 made_take b c q m o None = refl
 made_take b c q m o (Some k) = at (asks_code o && not (k == 0))
   where
@@ -200,7 +200,7 @@ made_take b c q m o (Some k) = at (asks_code o && not (k == 0))
     at true = refl
     at false = refl
 
-made_split : (b : ℕ) (c : List Op → ℕ) (q : ℕ) (m : MachineData) (past : List Entry) (a : Actor) (d : Deed)
+pub made_split : (b : ℕ) (c : List Op → ℕ) (q : ℕ) (m : MachineData) (past : List Entry) (a : Actor) (d : Deed)
     → made_in (worth b c q m) m past (record { actor = a; deed = d }) ≤ listed_part (listed_worth b c) m m.events past (record { actor = a; deed = d }) + (queries_in m past (record { actor = a; deed = d }) * (b + q) + code_jobs_in (code_worth b c m) m past (record { actor = a; deed = d }))
 made_split b c q m past a (deed.Claim n) = let most = made_claim b c q m (codes past) n in omega arith
 made_split b c q m past a (deed.Take v) = let most = made_take b c q m (open_of past) v in omega arith
@@ -217,7 +217,7 @@ all_made b c q m past =
 
 -- ---- charges
 
-charged_by : (m : MachineData) (f : Act → ℕ) → ByScripts m (charged f)
+pub charged_by : (m : MachineData) (f : Act → ℕ) → ByScripts m (charged f)
 charged_by m f past e ok = at e.actor e.deed ok
   where
     at : (a : Actor) (d : Deed) → Allowed m past (record { actor = a; deed = d }) → (charge f d ≡ 0) ⊎ (runs_scripts m a ≡ true)
@@ -256,7 +256,7 @@ pushes_by m g past e ok = at e.actor e.deed ok
     at a (deed.Push q) ok = inr (hold m past a (deed.Push q) ok).0
     at a _ ok = inl refl
 
-over_firsts : (m : MachineData) (c : List Op → ℕ) → over m (first_worth c m) ≡ sum_of c m.firmware
+pub over_firsts : (m : MachineData) (c : List Op → ℕ) → over m (first_worth c m) ≡ sum_of c m.firmware
 over_firsts m c = let none = upto-zero m.workers in let firmware = upto-sum c m.firmware in omega arith
 
 -- all entries are charged for no more than the firmware's scripts and the jobs that were started
@@ -284,14 +284,14 @@ firmware_charged f c m ok covers by past legal =
 
 -- ---- handlers of pushed codes
 
-abbrev handlers : (ℕ → ℕ) → (List Op → ℕ) → List Query → ℕ
+abbrev pub handlers : (ℕ → ℕ) → (List Op → ℕ) → List Query → ℕ
 handlers p c qs = sum_of (λ (h : Query). p h.code * c h.script) qs
 
-handlers-plus : (p r : ℕ → ℕ) (c : List Op → ℕ) (qs : List Query) → handlers (λ q. p q + r q) c qs ≡ handlers p c qs + handlers r c qs
+pub handlers-plus : (p r : ℕ → ℕ) (c : List Op → ℕ) (qs : List Query) → handlers (λ q. p q + r q) c qs ≡ handlers p c qs + handlers r c qs
 handlers-plus p r c [] = refl
 handlers-plus p r c (h ∷ qs) = let rest = handlers-plus p r c qs in let out = add-mul (p h.code) (r h.code) (c h.script) in omega arith
 
-one_handler : (c : List Op → ℕ) (k : ℕ) (qs : List Query) → c [] ≡ 0 → c (query_in qs k) ≤ handlers (λ q. one_if (q == k)) c qs
+pub one_handler : (c : List Op → ℕ) (k : ℕ) (qs : List Query) → c [] ≡ 0 → c (query_in qs k) ≤ handlers (λ q. one_if (q == k)) c qs
 one_handler c k [] none = omega arith
 one_handler c k (h ∷ qs) none = at (h.code == k) (one_handler c k qs none)
   where
@@ -299,7 +299,7 @@ one_handler c k (h ∷ qs) none = at (h.code == k) (one_handler c k qs none)
     at true rest = omega arith
     at false rest = omega arith
 
-spread : {X : Type 0} (b : ℕ) (c : List Op → ℕ) (qs : List Query) (t pc : X → ℕ) (p : ℕ → X → ℕ) → ((x : X) → t x ≤ b * pc x + handlers (λ q. p q x) c qs) → (xs : List X) → sum_of t xs ≤ b * sum_of pc xs + handlers (λ q. sum_of (p q) xs) c qs
+pub spread : {X : Type 0} (b : ℕ) (c : List Op → ℕ) (qs : List Query) (t pc : X → ℕ) (p : ℕ → X → ℕ) → ((x : X) → t x ≤ b * pc x + handlers (λ q. p q x) c qs) → (xs : List X) → sum_of t xs ≤ b * sum_of pc xs + handlers (λ q. sum_of (p q) xs) c qs
 spread b c qs t pc p each [] = omega arith
 spread b c qs t pc p each (x ∷ xs) =
     let rest = spread b c qs t pc p each xs in
@@ -307,11 +307,11 @@ spread b c qs t pc p each (x ∷ xs) =
     let split = handlers-plus (λ q. p q x) (λ q. sum_of (p q) xs) c qs in
     omega arith
 
-push_handled : (b : ℕ) (c : List Op → ℕ) (qs : List Query) → c [] ≡ 0 → (o : Op) → push_of (λ k. b + c (query_in qs k)) o ≤ b * counted tally.Pushes o + handlers (λ q. counted (tally.Code q) o) c qs
+pub push_handled : (b : ℕ) (c : List Op → ℕ) (qs : List Query) → c [] ≡ 0 → (o : Op) → push_of (λ k. b + c (query_in qs k)) o ≤ b * counted tally.Pushes o + handlers (λ q. counted (tally.Code q) o) c qs
 push_handled b c qs none (op.Push k) = let most = one_handler c k qs none in omega arith
 push_handled b c qs none _ = omega arith
 
-ops_handled : (b : ℕ) (c : List Op → ℕ) (qs : List Query) → c [] ≡ 0 → (ops : List Op) → sum_of (push_of (λ k. b + c (query_in qs k))) ops ≤ b * in_script tally.Pushes ops + handlers (λ q. in_script (tally.Code q) ops) c qs
+pub ops_handled : (b : ℕ) (c : List Op → ℕ) (qs : List Query) → c [] ≡ 0 → (ops : List Op) → sum_of (push_of (λ k. b + c (query_in qs k))) ops ≤ b * in_script tally.Pushes ops + handlers (λ q. in_script (tally.Code q) ops) c qs
 ops_handled b c qs none ops =
     let all = spread b c qs (push_of (λ k. b + c (query_in qs k))) (counted tally.Pushes) (λ q. counted (tally.Code q)) (push_handled b c qs none) ops in
     let pushes = in_script-is tally.Pushes ops in

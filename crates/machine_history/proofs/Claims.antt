@@ -42,26 +42,26 @@ potential false s l h k = one s
 potential true s true h k = 17 - (k + one h)
 potential true s false h k = one (s && not h)
 
-raised : (v s l h : Bool) (k : ℕ) → potential v true l h k ≤ 1 + potential v s l h k
+pub raised : (v s l h : Bool) (k : ℕ) → potential v true l h k ≤ 1 + potential v s l h k
 raised false s l h k = omega arith
 raised true s true h k = omega arith
 raised true s false h k = let few = one_small (not h) in omega arith
 
-asserted : (v s l h : Bool) (k : ℕ) → potential v true true h 0 ≤ 17 + potential v s l h k
+pub asserted : (v s l h : Bool) (k : ℕ) → potential v true true h 0 ≤ 17 + potential v s l h k
 asserted false s l h k = omega arith
 asserted true s l h k = omega arith
 
-dropped : (v s l h : Bool) (k : ℕ) → (v ≡ true → k + one h ≤ 16) → potential v s false h 0 ≤ potential v s l h k
+pub dropped : (v s l h : Bool) (k : ℕ) → (v ≡ true → k + one h ≤ 16) → potential v s false h 0 ≤ potential v s l h k
 dropped false s l h k low = omega arith
 dropped true s true h k low = let few = one_small (s && not h) in let less : k + one h ≤ 16 = low refl in omega arith
 dropped true s false h k low = omega arith
 
-claimed : (v s l h listed : Bool) (k : ℕ) → s ≡ true → h ≡ false → (v ≡ true → k < 16) → (v ≡ true → listed ≡ true) → 1 + potential v (v && s) l listed k ≤ potential v s l h k
+pub claimed : (v s l h listed : Bool) (k : ℕ) → s ≡ true → h ≡ false → (v ≡ true → k < 16) → (v ≡ true → listed ≡ true) → 1 + potential v (v && s) l listed k ≤ potential v s l h k
 claimed false s l h listed k is_s is_h less known = rw is_s (omega arith)
 claimed true s true h listed k is_s is_h less known = rw (is_h, known refl) (let below : k < 16 = less refl in omega arith)
 claimed true s false h listed k is_s is_h less known = rw (is_s, is_h, known refl) (omega arith)
 
-finished : (v s l h : Bool) (k : ℕ) → (v ≡ true → k + one h ≤ 16) → potential v (if v then l else s) l false (if l then min 16 (k + 1) else 0) ≤ potential v s l h k
+pub finished : (v s l h : Bool) (k : ℕ) → (v ≡ true → k + one h ≤ 16) → potential v (if v then l else s) l false (if l then min 16 (k + 1) else 0) ≤ potential v s l h k
 finished false s l h k low = omega arith
 finished true s true h k low = let few = one_small h in let less : k + one h ≤ 16 = low refl in omega arith
 finished true s false h k low = omega arith
@@ -93,7 +93,7 @@ claimable k s h =
     let r = and_parts _ (not s.held) q.0 in
     (p.0, not-true s.held r.1, not-true (is_parked k s) q.1)
 
-below : (v : Bool) (k : ℕ) → (v && nat_le 16 k) ≡ false → v ≡ true → k < 16
+pub below : (v : Bool) (k : ℕ) → (v && nat_le 16 k) ≡ false → v ≡ true → k < 16
 below true k h is = leb-false 16 k h
 below false k h is = cc
 
@@ -103,11 +103,11 @@ level_listed kind.Unknown is = cc
 level_listed kind.Edge is = cc
 level_listed kind.Always is = cc
 
-low_finish : (l : Bool) (k : ℕ) → (if l then min 16 (k + 1) else 0) + 0 ≤ 16
+pub low_finish : (l : Bool) (k : ℕ) → (if l then min 16 (k + 1) else 0) + 0 ≤ 16
 low_finish true k = omega arith
 low_finish false k = omega arith
 
-on_touch : (t : Touch) (s : Slot) → Low s → (t ≡ touch.Claim → is_pending s.kind s.state ≡ true) → Low (chip.touched t s) × (takes_by t + pot (chip.touched t s) ≤ grants_by t + pot s)
+pub on_touch : (t : Touch) (s : Slot) → Low s → (t ≡ touch.Claim → is_pending s.kind s.state ≡ true) → Low (chip.touched t s) × (takes_by t + pot (chip.touched t s) ≤ grants_by t + pot s)
 on_touch touch.Raise s low may = (low, (let most = raised (is_level s.kind) s.state.status s.state.line s.state.held s.state.storm in omega arith))
 on_touch touch.Assert s low may = (λ level. (let few = one_small s.state.held in omega arith), (let most = asserted (is_level s.kind) s.state.status s.state.line s.state.held s.state.storm in omega arith))
 on_touch touch.Drop s low may = (λ level. (let few = one_small s.state.held in omega arith), (let most = dropped (is_level s.kind) s.state.status s.state.line s.state.held s.state.storm low in omega arith))
@@ -125,15 +125,15 @@ abbrev pub MayTouch : MachineData → List Entry → Option Touched → Type 0
 MayTouch m past None = Unit {0}
 MayTouch m past (Some t) = t.by ≡ touch.Claim → pending m past t.event ≡ true
 
-may_raise : (m : MachineData) (past : List Entry) (o : Option Event) → MayTouch m past (does_to touch.Raise o)
+pub may_raise : (m : MachineData) (past : List Entry) (o : Option Event) → MayTouch m past (does_to touch.Raise o)
 may_raise m past None = tt
 may_raise m past (Some n) = λ is. cc
 
-may_finish : (m : MachineData) (past : List Entry) (o : Option Event) → MayTouch m past (does_to touch.Finish o)
+pub may_finish : (m : MachineData) (past : List Entry) (o : Option Event) → MayTouch m past (does_to touch.Finish o)
 may_finish m past None = tt
 may_finish m past (Some n) = λ is. cc
 
-may_if : (m : MachineData) (past : List Entry) (b : Bool) (o : Option Touched) → MayTouch m past o → MayTouch m past (if b then o else None)
+pub may_if : (m : MachineData) (past : List Entry) (b : Bool) (o : Option Touched) → MayTouch m past o → MayTouch m past (if b then o else None)
 may_if m past true o may = may
 may_if m past false o may = tt
 
@@ -163,10 +163,10 @@ grants m n past e = on_event grants_by n (touched m past e)
 abbrev pub takes : MachineData → Event → Count
 takes m n past e = on_event takes_by n (touched m past e)
 
-abbrev Step : Event → Option Touched → Slot → Type 0
+abbrev pub Step : Event → Option Touched → Slot → Type 0
 Step n o s = Low (slot_after n o s) × (on_event takes_by n o + pot (slot_after n o s) ≤ on_event grants_by n o + pot s)
 
-slot_step : (m : MachineData) (past : List Entry) (n : Event) (o : Option Touched) → MayTouch m past o → Low (slot m past n) → Step n o (slot m past n)
+pub slot_step : (m : MachineData) (past : List Entry) (n : Event) (o : Option Touched) → MayTouch m past o → Low (slot m past n) → Step n o (slot m past n)
 slot_step m past n None may low = (low, omega arith)
 slot_step m past n (Some t) may low = at (same_event t.event n) refl
   where
@@ -174,7 +174,7 @@ slot_step m past n (Some t) may low = at (same_event t.event n) refl
     at true same = rw same (on_touch t.by (slot m past n) low (λ is. subst (λ k. pending m past k ≡ true) (same_event-true t.event n same) (may is)))
     at false other = rw other (low, omega arith)
 
-first_fresh : (b : Bool) (l : Option Listed) → (count : ℕ) × ((if b then always else slot_or l no_slot).state ≡ fresh count)
+pub first_fresh : (b : Bool) (l : Option Listed) → (count : ℕ) × ((if b then always else slot_or l no_slot).state ≡ fresh count)
 first_fresh true l = (0, refl)
 first_fresh false None = (0, refl)
 first_fresh false (Some l) = (l.refs, refl)
@@ -182,11 +182,11 @@ first_fresh false (Some l) = (l.refs, refl)
 pub starts_fresh : (m : MachineData) (n : Event) → (count : ℕ) × ((first_slot_of m n).state ≡ fresh count)
 starts_fresh m n = first_fresh (is_gbl n || is_controllers (own_event m) n) (listing (listed_in m) n)
 
-first_pot : (v : Bool) → potential v false false false 0 ≡ 0
+pub first_pot : (v : Bool) → potential v false false false 0 ≡ 0
 first_pot true = refl
 first_pot false = refl
 
-starts_idle : (s : Slot) (count : ℕ) → s.state ≡ fresh count → (pot s ≡ 0) × Low s
+pub starts_idle : (s : Slot) (count : ℕ) → s.state ≡ fresh count → (pot s ≡ 0) × Low s
 starts_idle s count is =
     (ap (λ (x : EventState). potential (is_level s.kind) x.status x.line x.held x.storm) is ∙ first_pot (is_level s.kind), λ level. subst (λ (x : EventState). x.storm + one x.held ≤ 16) (sym is) (omega arith))
 
@@ -231,44 +231,44 @@ sets m n o a d = (charge (lifts n) d + latch_in n d) + ((if is_own m n then ctl_
 abbrev pub sets_in : MachineData → Event → Count
 sets_in m n past e = sets m n (open_of past) e.actor e.deed
 
-by_controller : (n : Event) (o : Option Event) → on_event grants_by n (does_to touch.Raise o) ≡ one (names o n)
+pub by_controller : (n : Event) (o : Option Event) → on_event grants_by n (does_to touch.Raise o) ≡ one (names o n)
 by_controller n None = refl
 by_controller n (Some x) = refl
 
-named : (b : Bool) (k : ℕ) → 1 ≤ k → one b ≤ (if b then k else 0)
+pub named : (b : Bool) (k : ℕ) → 1 ≤ k → one b ≤ (if b then k else 0)
 named true k h = h
 named false k h = omega arith
 
-loud_move : (n : Event) (o : Option Event) (loud : Bool) (k : ℕ) → (loud ≡ true → 1 ≤ k) → on_event grants_by n (if loud then does_to touch.Raise o else None) ≤ (if names o n then k else 0)
+pub loud_move : (n : Event) (o : Option Event) (loud : Bool) (k : ℕ) → (loud ≡ true → 1 ≤ k) → on_event grants_by n (if loud then does_to touch.Raise o else None) ≤ (if names o n then k else 0)
 loud_move n o true k h = rw (by_controller n o) (named (names o n) k (h refl))
 loud_move n o false k h = omega arith
 
-quiet : (b : Bool) → when b 0 ≡ 0
+pub quiet : (b : Bool) → when b 0 ≡ 0
 quiet true = refl
 quiet false = refl
 
-finish_grants : (n : Event) (o : Option Event) → on_event grants_by n (does_to touch.Finish o) ≡ 0
+pub finish_grants : (n : Event) (o : Option Event) → on_event grants_by n (does_to touch.Finish o) ≡ 0
 finish_grants n None = refl
 finish_grants n (Some x) = quiet (same_event x n)
 
-a_move : (b : Bool) → 1 ≤ (if b then 0 else 1) + (if b then 1 else 0)
+pub a_move : (b : Bool) → 1 ≤ (if b then 0 else 1) + (if b then 1 else 0)
 a_move true = omega arith
 a_move false = omega arith
 
-signalled : (stands is : Bool) → (if stands then (if is then 1 else 0) else 0) ≤ (if is then (if stands then 1 else 0) else 0)
+pub signalled : (stands is : Bool) → (if stands then (if is then 1 else 0) else 0) ≤ (if is then (if stands then 1 else 0) else 0)
 signalled true true = omega arith
 signalled true false = omega arith
 signalled false is = omega arith
 
-leave_grants : (n : Event) (stands : Bool) → on_event grants_by n (if stands then does touch.Raise gbl else None) ≡ when stands (when (same_event gbl n) 1)
+pub leave_grants : (n : Event) (stands : Bool) → on_event grants_by n (if stands then does touch.Raise gbl else None) ≡ when stands (when (same_event gbl n) 1)
 leave_grants n true = refl
 leave_grants n false = refl
 
-seventeen : (b : Bool) → when b 17 ≡ 17 * one b
+pub seventeen : (b : Bool) → when b 17 ≡ 17 * one b
 seventeen true = refl
 seventeen false = refl
 
-few_grants : (m : MachineData) (o : Option Open) (queue : List ℕ) (made : List Job) (a : Actor) (n : Event) (d : Deed) → on_event grants_by n (touch_of m o queue made a d) ≤ sets m n o a d
+pub few_grants : (m : MachineData) (o : Option Open) (queue : List ℕ) (made : List Job) (a : Actor) (n : Event) (d : Deed) → on_event grants_by n (touch_of m o queue made a d) ≤ sets m n o a d
 few_grants m o queue made a n (deed.Raise x) = let swap : one (same_event x n) ≡ one (same_event n x) = ap one (same_event-swap x n) in omega arith
 few_grants m o queue made a n (deed.Latch x) = omega arith
 few_grants m o queue made a n (deed.Assert x) = let swap : one (same_event x n) ≡ one (same_event n x) = ap one (same_event-swap x n) in let all = seventeen (same_event x n) in omega arith

@@ -29,19 +29,19 @@ use Rattle.machine_history.proofs.Wires.{ctl_is, host_is}
 
 -- ---- a query whose Out is made has its code
 
-abbrev FilledAt : Open → Type 0
+abbrev pub FilledAt : Open → Type 0
 FilledAt o = is_query o.asks ≡ true → 2 ≤ o.made → is_some o.out ≡ true
 
 abbrev pub Filled : Option Open → Type 0
 Filled None = Unit {0}
 Filled (Some o) = FilledAt o
 
-host_place : (v k : ℕ) (g : HostMove) → slice_get (wire request.Qr v) k ≡ Some (move.Host g) → (k ≡ 0) ⊎ (2 ≤ k)
+pub host_place : (v k : ℕ) (g : HostMove) → slice_get (wire request.Qr v) k ≡ Some (move.Host g) → (k ≡ 0) ⊎ (2 ≤ k)
 host_place v zero g at = inl refl
 host_place v (suc zero) g at = cc
 host_place v (suc (suc k)) g at = inr (omega arith)
 
-filled_step : (m : MachineData) (past : List Entry) (h : HostMove) (oo : Option Open) → is_host_move h (next_in m past oo) ≡ true → Filled oo → Filled (moved oo)
+pub filled_step : (m : MachineData) (past : List Entry) (h : HostMove) (oo : Option Open) → is_host_move h (next_in m past oo) ≡ true → Filled oo → Filled (moved oo)
 filled_step m past h None is before = tt
 filled_step m past h (Some o) is before = λ asks far.
     let next = host_is h (next_in m past (Some o)) is in
@@ -51,15 +51,15 @@ filled_step m past h (Some o) is before = λ asks far.
       | inr behind ↦ before asks behind
     ]
 
-filled_other : (oo : Option Open) → asks_code oo ≡ false → Filled (moved oo)
+pub filled_other : (oo : Option Open) → asks_code oo ≡ false → Filled (moved oo)
 filled_other None other = tt
 filled_other (Some o) other = λ asks far. cc
 
-filled_put : (v : ℕ) (oo : Option Open) → Filled (put_out v oo)
+pub filled_put : (v : ℕ) (oo : Option Open) → Filled (put_out v oo)
 filled_put v None = tt
 filled_put v (Some o) = λ asks far. refl
 
-filled_deed : (m : MachineData) (past : List Entry) (a : Actor) (d : Deed) → Allowed m past (record { actor = a; deed = d }) → Filled (open_of past) → Filled (open_after a d (open_of past))
+pub filled_deed : (m : MachineData) (past : List Entry) (a : Actor) (d : Deed) → Allowed m past (record { actor = a; deed = d }) → Filled (open_of past) → Filled (open_after a d (open_of past))
 filled_deed m past a (deed.Begin r) ok before = λ asks far. absurd (omega (arith, far))
 filled_deed m past a (deed.Step h) ok before = filled_step m past h (open_of past) (hold m past a (deed.Step h) ok).1.1.1.0 before
 filled_deed m past a (deed.Ctl effect.Calm) ok before = before
@@ -91,11 +91,11 @@ code_price g _ = 0
 abbrev pub code_jobs_in : (ℕ → ℕ) → MachineData → Count
 code_jobs_in g m past e = code_price g (made m past e)
 
-waiting_moved : (g : ℕ → ℕ) (oo : Option Open) → waiting g (moved oo) ≡ waiting g oo
+pub waiting_moved : (g : ℕ → ℕ) (oo : Option Open) → waiting g (moved oo) ≡ waiting g oo
 waiting_moved g None = refl
 waiting_moved g (Some o) = refl
 
-waiting_begun : (g : ℕ → ℕ) (a : Actor) (r : Request) → waiting g (Some (begun a r)) ≡ 0
+pub waiting_begun : (g : ℕ → ℕ) (a : Actor) (r : Request) → waiting g (Some (begun a r)) ≡ 0
 waiting_begun g a (request.Rd x) = refl
 waiting_begun g a (request.Wr x v) = refl
 waiting_begun g a request.Be = refl
@@ -111,17 +111,17 @@ out_is m past v o qr is =
     let same : same_effect (effect.Out v) (effect.Out (blank m past o)) ≡ true = ap (same_effect (effect.Out v)) (sym f) ∙ next.2 in
     eqb-true v (blank m past o) same ∙ ap (λ r. unwrap_or o.out (answer m past r)) qr
 
-worth_small : (b : Bool) (k : ℕ) → (if b then 0 else k) ≤ k
+pub worth_small : (b : Bool) (k : ℕ) → (if b then 0 else k) ≤ k
 worth_small true k = omega arith
 worth_small false k = omega arith
 
-out_given : (g : ℕ → ℕ) (out : Option ℕ) (queue : List ℕ) → out_worth g (Some (unwrap_or out (first_code queue))) + sum_of g (drop 1 queue) ≤ out_worth g out + sum_of g queue
+pub out_given : (g : ℕ → ℕ) (out : Option ℕ) (queue : List ℕ) → out_worth g (Some (unwrap_or out (first_code queue))) + sum_of g (drop 1 queue) ≤ out_worth g out + sum_of g queue
 out_given g None [] = omega arith
 out_given g None (q ∷ queue) = let small = worth_small (q == 0) (g q) in omega arith
 out_given g (Some q) [] = omega arith
 out_given g (Some q) (x ∷ queue) = omega arith
 
-out_codes : (g : ℕ → ℕ) (m : MachineData) (past : List Entry) (v : ℕ) (oo : Option Open) → is_ctl_move (effect.Out v) (next_in m past oo) ≡ true
+pub out_codes : (g : ℕ → ℕ) (m : MachineData) (past : List Entry) (v : ℕ) (oo : Option Open) → is_ctl_move (effect.Out v) (next_in m past oo) ≡ true
     → waiting g (put_out v oo) + sum_of g (if asks_code oo then drop 1 (codes past) else codes past) ≤ waiting g oo + sum_of g (codes past)
 out_codes g m past v None is = cc
 out_codes g m past v (Some o) is = at (is_query o.asks) refl
@@ -131,33 +131,33 @@ out_codes g m past v (Some o) is = at (is_query o.asks) refl
     at false other = omega arith
 
 -- a take of a query makes the run of the code that waits
-same_number-true : (v w : ℕ) → same_number (Some v) (Some w) ≡ true → v ≡ w
+pub same_number-true : (v w : ℕ) → same_number (Some v) (Some w) ≡ true → v ≡ w
 same_number-true v w same = eqb-true v w same
 
-run_worth : (g : ℕ → ℕ) (v : ℕ) → code_price g (if true && not (v == 0) then Some (job.Code v) else None) ≤ out_worth g (Some v)
+pub run_worth : (g : ℕ → ℕ) (v : ℕ) → code_price g (if true && not (v == 0) then Some (job.Code v) else None) ≤ out_worth g (Some v)
 run_worth g v = at (v == 0)
   where
     at : (b : Bool) → code_price g (if true && not b then Some (job.Code v) else None) ≤ (if b then 0 else g v)
     at true = omega arith
     at false = omega arith
 
-not_taking : (g : ℕ → ℕ) (v : Option ℕ) (asks : Bool) → asks ≡ false → (o : Option Open) → asks_code o ≡ asks → code_price g (taken_job o v) ≡ 0
+pub not_taking : (g : ℕ → ℕ) (v : Option ℕ) (asks : Bool) → asks ≡ false → (o : Option Open) → asks_code o ≡ asks → code_price g (taken_job o v) ≡ 0
 not_taking g None asks is o same = refl
 not_taking g (Some v) asks is o same = rw (same ∙ is) refl
 
-abbrev taking_of : Open → ℕ → Option (Option ℕ)
+abbrev pub taking_of : Open → ℕ → Option (Option ℕ)
 taking_of o b = if o.made == 3 then Some (carried request.Qr b) else None
 
-take_all : (b : Bool) (w : Option ℕ) (v : Option ℕ) → is_some (if b then Some w else None) ≡ true → is_taking v (if b then Some w else None) ≡ true → (b ≡ true) × (same_number v w ≡ true)
+pub take_all : (b : Bool) (w : Option ℕ) (v : Option ℕ) → is_some (if b then Some w else None) ≡ true → is_taking v (if b then Some w else None) ≡ true → (b ≡ true) × (same_number v w ≡ true)
 take_all true w v some is = (refl, is)
 take_all false w v some is = cc
 
-take_given : (g : ℕ → ℕ) (v : Option ℕ) (out : Option ℕ) (first : ℕ) → is_some out ≡ true → same_number v (Some (unwrap_or out first)) ≡ true → (asks : Bool) → (oo : Option Open) → asks_code oo ≡ true → code_price g (taken_job oo v) ≤ out_worth g out
+pub take_given : (g : ℕ → ℕ) (v : Option ℕ) (out : Option ℕ) (first : ℕ) → is_some out ≡ true → same_number v (Some (unwrap_or out first)) ≡ true → (asks : Bool) → (oo : Option Open) → asks_code oo ≡ true → code_price g (taken_job oo v) ≤ out_worth g out
 take_given g v None first some same asks oo is = cc
 take_given g None (Some w) first some same asks oo is = cc
 take_given g (Some v) (Some w) first some same asks oo is = rw (is, same_number-true v w same) (run_worth g w)
 
-take_codes : (g : ℕ → ℕ) (m : MachineData) (past : List Entry) (v : Option ℕ) (oo : Option Open) → Filled oo → is_some (taking_in m past oo) ≡ true → is_taking v (taking_in m past oo) ≡ true → code_price g (taken_job oo v) ≤ waiting g oo
+pub take_codes : (g : ℕ → ℕ) (m : MachineData) (past : List Entry) (v : Option ℕ) (oo : Option Open) → Filled oo → is_some (taking_in m past oo) ≡ true → is_taking v (taking_in m past oo) ≡ true → code_price g (taken_job oo v) ≤ waiting g oo
 take_codes g m past v None full some is = cc
 take_codes g m past v (Some o) full some is = at (is_query o.asks) refl
   where
@@ -171,7 +171,7 @@ take_codes g m past v (Some o) full some is = at (is_query o.asks) refl
         take_given g v o.out (answer m past o.asks) (full asks (omega arith)) all.1 true (Some o) asks
     at false other = let none = not_taking g v false refl (Some o) other in omega arith
 
-claim_code : (g : ℕ → ℕ) (m : MachineData) (queue : List ℕ) (n : Event) → code_price g (claimed_job m queue n) ≡ 0
+pub claim_code : (g : ℕ → ℕ) (m : MachineData) (queue : List ℕ) (n : Event) → code_price g (claimed_job m queue n) ≡ 0
 claim_code g m queue n = at (lists m n) (is_own m n && not (is_empty queue))
   where
     at : (b c : Bool) → code_price g (if b then Some (job.Event n) else if c then Some job.Query else None) ≡ 0
@@ -179,7 +179,7 @@ claim_code g m queue n = at (lists m n) (is_own m n && not (is_empty queue))
     at false true = refl
     at false false = refl
 
-codes_step : (g : ℕ → ℕ) (m : MachineData) (past : List Entry) (a : Actor) (d : Deed) → Filled (open_of past) → Allowed m past (record { actor = a; deed = d })
+pub codes_step : (g : ℕ → ℕ) (m : MachineData) (past : List Entry) (a : Actor) (d : Deed) → Filled (open_of past) → Allowed m past (record { actor = a; deed = d })
     → code_price g (made_by m (open_of past) (codes past) d) + (waiting g (open_after a d (open_of past)) + sum_of g (codes_after (open_of past) d (codes past))) ≤ charge (pushes_price g) d + (waiting g (open_of past) + sum_of g (codes past))
 codes_step g m past a (deed.Begin r) full ok = let none = waiting_begun g a r in omega arith
 codes_step g m past a (deed.Step h) full ok = let same = waiting_moved g (open_of past) in omega arith

@@ -24,18 +24,18 @@ use Rattle.machine_history.proofs.LastEntries.{at_push, at_seam, held_step, stat
 use Rattle.machine_history.proofs.Places.{legal-each, reverse-cons, slice_get-push}
 
 -- an entry set the status, and behind it stands no claim
-abbrev SetSince : MachineData → Event → List Entry → Type 0
+abbrev pub SetSince : MachineData → Event → List Entry → Type 0
 SetSince m n history = (j : ℕ) × (j < length history) × SetsAt (status_set m n) history j true × ((k : ℕ) (e : Entry) → j < k → slice_get history k ≡ Some e → e.deed ≡ deed.Claim n → ⊥)
 
 -- what an entry leaves of the status, of a level event the held one
-abbrev Ready : Bool → Bool → Bool → Type 0
+abbrev pub Ready : Bool → Bool → Bool → Type 0
 Ready level s h = (s ≡ true) × (level ≡ true → h ≡ false)
 
 -- the entry sets the status, or is no claim and leaves an event ready that was so
-abbrev Turns : Bool → Bool → Option Touch → Bool → Bool → Type 0
+abbrev pub Turns : Bool → Bool → Option Touch → Bool → Bool → Type 0
 Turns level on t s h = (status_by level on t ≡ Some true) ⊎ ((t ≡ Some touch.Claim → ⊥) × Ready level s h)
 
-some_claim : (t : Touch) → (t ≡ touch.Claim → ⊥) → Some t ≡ Some touch.Claim → ⊥
+pub some_claim : (t : Touch) → (t ≡ touch.Claim → ⊥) → Some t ≡ Some touch.Claim → ⊥
 some_claim touch.Claim other is = other refl
 some_claim touch.Raise other is = cc
 some_claim touch.Assert other is = cc
@@ -44,7 +44,7 @@ some_claim touch.Finish other is = cc
 some_claim touch.Up other is = cc
 some_claim touch.Down other is = cc
 
-turns : (level listed on : Bool) (t : Option Touch) (s h : Bool) → (level ≡ true → listed ≡ true) → Ready level (unwrap_or (status_by level on t) s) (unwrap_or (held_by listed t) h) → Turns level on t s h
+pub turns : (level listed on : Bool) (t : Option Touch) (s h : Bool) → (level ≡ true → listed ≡ true) → Ready level (unwrap_or (status_by level on t) s) (unwrap_or (held_by listed t) h) → Turns level on t s h
 turns level listed on None s h known ready = inr (λ is. cc, ready)
 turns level listed on (Some touch.Raise) s h known ready = inl refl
 turns level listed on (Some touch.Assert) s h known ready = inl refl
@@ -63,10 +63,10 @@ turns true listed on (Some touch.Finish) s h known ready = inl (ap Some ready.0)
 turns false listed on (Some touch.Finish) s h known ready = inr (some_claim touch.Finish (λ is. cc), (ready.0, λ level. cc))
 
 -- a claim of the event is one
-claims : (m : MachineData) (past : List Entry) (n : Event) (e : Entry) → e.deed ≡ deed.Claim n → done_to n (touched m past e) ≡ Some touch.Claim
+pub claims : (m : MachineData) (past : List Entry) (n : Event) (e : Entry) → e.deed ≡ deed.Claim n → done_to n (touched m past e) ≡ Some touch.Claim
 claims m past n e is = subst (λ d. done_to n (touched m past (record { actor = e.actor; deed = d })) ≡ Some touch.Claim) (sym is) (rw (same_event-self n) refl)
 
-grown : (m : MachineData) (n : Event) (past : List Entry) (e : Entry) → (done_to n (touched m past e) ≡ Some touch.Claim → ⊥) → SetSince m n (reverse past) → SetSince m n (reverse past ++ e ∷ [])
+pub grown : (m : MachineData) (n : Event) (past : List Entry) (e : Entry) → (done_to n (touched m past e) ≡ Some touch.Claim → ⊥) → SetSince m n (reverse past) → SetSince m n (reverse past ++ e ∷ [])
 grown m n past e other before = (
   before.0,
   (let less = before.1 in let long = length_push (reverse past) e in omega arith),
@@ -78,7 +78,7 @@ grown m n past e other before = (
       ],
 )
 
-here : (m : MachineData) (n : Event) (past : List Entry) (e : Entry) → status_set m n past e ≡ Some true → SetSince m n (reverse past ++ e ∷ [])
+pub here : (m : MachineData) (n : Event) (past : List Entry) (e : Entry) → status_set m n past e ≡ Some true → SetSince m n (reverse past ++ e ∷ [])
 here m n past e sets = (
   length (reverse past),
   (let long = length_push (reverse past) e in omega arith),
@@ -106,7 +106,7 @@ set_since m n (e ∷ past) ready =
 -- ---- by places
 
 -- what stands in the front of a history stands in it
-front_get : {X : Type 0} (xs : List X) (i j : ℕ) (x : X) → slice_get (take i xs) j ≡ Some x → slice_get xs j ≡ Some x
+pub front_get : {X : Type 0} (xs : List X) (i j : ℕ) (x : X) → slice_get (take i xs) j ≡ Some x → slice_get xs j ≡ Some x
 front_get xs zero j x at = absurd (none at)
   where
     none : None ≡ Some x → ⊥
@@ -118,17 +118,17 @@ front_get [] (suc i) j x at = absurd (none at)
 front_get (y ∷ xs) (suc i) zero x at = at
 front_get (y ∷ xs) (suc i) (suc j) x at = front_get xs i j x at
 
-back_get : {X : Type 0} (xs : List X) (i j : ℕ) (x : X) → j < i → slice_get xs j ≡ Some x → slice_get (take i xs) j ≡ Some x
+pub back_get : {X : Type 0} (xs : List X) (i j : ℕ) (x : X) → j < i → slice_get xs j ≡ Some x → slice_get (take i xs) j ≡ Some x
 back_get xs zero j x below at = absurd (omega arith)
 back_get [] (suc i) j x below at = at
 back_get (y ∷ xs) (suc i) zero x below at = at
 back_get (y ∷ xs) (suc i) (suc j) x below at = back_get xs i j x (omega arith) at
 
-front_sets : (m : MachineData) (n : Event) (history : List Entry) (i j : ℕ) → j < i → SetsAt (status_set m n) (take i history) j true → SetsAt (status_set m n) history j true
+pub front_sets : (m : MachineData) (n : Event) (history : List Entry) (i j : ℕ) → j < i → SetsAt (status_set m n) (take i history) j true → SetsAt (status_set m n) history j true
 front_sets m n history i j below at =
     (at.0, front_get history i j at.0 at.1, ap (λ h. status_set m n (reverse h) at.0) (sym (take-take j i history (omega arith))) ∙ at.2)
 
-claim_ready : (m : MachineData) (past : List Entry) (n : Event) → pending m past n ≡ true → Ready (is_level (kind_of m n)) (status m past n) (held m past n)
+pub claim_ready : (m : MachineData) (past : List Entry) (n : Event) → pending m past n ≡ true → Ready (is_level (kind_of m n)) (status m past n) (held m past n)
 claim_ready m past n is = let c = claimable (slot m past n).kind (slot m past n).state is in (c.0, λ level. c.1)
 
 pub claims_consume : (m : MachineData) (history : List Entry) → Legal m history → ClaimsConsume m history

@@ -37,10 +37,10 @@ use Rattle.machine_history.specs.Scripts.{answer_of, first_plan, job_plan, left_
 
 -- ---- an op that names no field
 
-some-injective : {X : Type 0} (x y : X) → Some x ≡ Some y → x ≡ y
+pub some-injective : {X : Type 0} (x y : X) → Some x ≡ Some y → x ≡ y
 some-injective x y e = cc
 
-alone : (m : MachineData) (o : Op) (a : Act) → HasCode o → act_alone o ≡ Some a → fits m false a ≡ true
+pub alone : (m : MachineData) (o : Op) (a : Act) → HasCode o → act_alone o ≡ Some a → fits m false a ≡ true
 alone m (op.Read f) a given is = cc
 alone m (op.Write f v) a given is = cc
 alone m (op.Add f v) a given is = cc
@@ -58,7 +58,7 @@ alone m (op.Push q) a given is = subst (λ x. fits m false x ≡ true) (some-inj
 -- ---- a byte of a field
 
 -- it stands inside the field's region
-inside : (len bit width k : ℕ) → field_fault len bit width ≡ None → k < (bit + width - 1) / 8 - bit / 8 + 1 → bit / 8 + k < len
+pub inside : (len bit width k : ℕ) → field_fault len bit width ≡ None → k < (bit + width - 1) / 8 - bit / 8 + 1 → bit / 8 + k < len
 inside len bit width k fits below = by_tests (nat_lt width 1) (nat_lt 64 width) (nat_lt (8 * len) (bit + width)) refl refl fits
   where
     by_tests : (few many out : Bool) → nat_lt width 1 ≡ few → nat_lt (8 * len) (bit + width) ≡ out → (if few || many then Some field.BadWidth else (if out then Some field.OutsideRegion else None)) ≡ None → bit / 8 + k < len
@@ -70,14 +70,14 @@ inside len bit width k fits below = by_tests (nat_lt width 1) (nat_lt 64 width) 
         let within : bit + width ≤ 8 * len = ltb-false (8 * len) (bit + width) out_is in
         omega arith
 
-abbrev kind_in : Option RegionData → RegionKind → Type 0
+abbrev pub kind_in : Option RegionData → RegionKind → Type 0
 kind_in None k = ⊥
 kind_in (Some region) k = region.kind ≡ k
 
-within_field : (m : MachineData) → IsMachine m → (f : ℕ) (field : Field) (k : ℕ) → slice_get m.fields f ≡ Some field → k < byte_count field → first_byte field + k < field.len
+pub within_field : (m : MachineData) → IsMachine m → (f : ℕ) (field : Field) (k : ℕ) → slice_get m.fields f ≡ Some field → k < byte_count field → first_byte field + k < field.len
 within_field m ok f field k at below = inside field.len field.bit field.width k (each_all (IsField m) m.fields ok.fields f field at).fits below
 
-in_memory : (m : MachineData) → IsMachine m → (f : ℕ) (field : Field) (k : ℕ) → slice_get m.fields f ≡ Some field → field.kind ≡ kind.Memory → k < byte_count field → is_memory_cell m (cell_of field k) ≡ true
+pub in_memory : (m : MachineData) → IsMachine m → (f : ℕ) (field : Field) (k : ℕ) → slice_get m.fields f ≡ Some field → field.kind ≡ kind.Memory → k < byte_count field → is_memory_cell m (cell_of field k) ≡ true
 in_memory m ok f field k at is below =
     let kept : IsField m field = each_all (IsField m) m.fields ok.fields f field at in
     let within : first_byte field + k < length kept.region.cells = subst (λ n. first_byte field + k < n) kept.len (within_field m ok f field k at below) in
@@ -85,21 +85,21 @@ in_memory m ok f field k at is below =
     rw (kept.named, plain) (lt-ltb _ _ within)
 
 -- an address of the controller's space
-addressed : (m : MachineData) → IsMachine m → (f : ℕ) (field : Field) (k : ℕ) → slice_get m.fields f ≡ Some field → field.kind ≡ kind.Controller → k < byte_count field → nat_lt (first_byte field + k) 256 ≡ true
+pub addressed : (m : MachineData) → IsMachine m → (f : ℕ) (field : Field) (k : ℕ) → slice_get m.fields f ≡ Some field → field.kind ≡ kind.Controller → k < byte_count field → nat_lt (first_byte field + k) 256 ≡ true
 addressed m ok f field k at is below =
     let kept : IsField m field = each_all (IsField m) m.fields ok.fields f field at in
     let whole : length kept.region.cells ≡ 256 = (each_all (IsRegion m) m.regions ok.regions field.region kept.region kept.named).address (ap is_controller (sym kept.kind ∙ is)) in
     lt-ltb _ _ (subst (λ n. first_byte field + k < n) (kept.len ∙ whole) (within_field m ok f field k at below))
 
-reads : (m : MachineData) → IsMachine m → (f : ℕ) (field : Field) (needs : Bool) (k : ℕ) (of_kind : RegionKind) → slice_get m.fields f ≡ Some field → field.kind ≡ of_kind → k < byte_count field → fits m needs (read_in of_kind field k) ≡ true
+pub reads : (m : MachineData) → IsMachine m → (f : ℕ) (field : Field) (needs : Bool) (k : ℕ) (of_kind : RegionKind) → slice_get m.fields f ≡ Some field → field.kind ≡ of_kind → k < byte_count field → fits m needs (read_in of_kind field k) ≡ true
 reads m ok f field needs k kind.Memory at is below = in_memory m ok f field k at is below
 reads m ok f field needs k kind.Controller at is below = addressed m ok f field k at is below
 
-writes : (m : MachineData) → IsMachine m → (f : ℕ) (field : Field) (needs : Bool) (k byte : ℕ) (of_kind : RegionKind) → slice_get m.fields f ≡ Some field → field.kind ≡ of_kind → k < byte_count field → fits m needs (write_in of_kind field k byte) ≡ true
+pub writes : (m : MachineData) → IsMachine m → (f : ℕ) (field : Field) (needs : Bool) (k byte : ℕ) (of_kind : RegionKind) → slice_get m.fields f ≡ Some field → field.kind ≡ of_kind → k < byte_count field → fits m needs (write_in of_kind field k byte) ≡ true
 writes m ok f field needs k byte kind.Memory at is below = in_memory m ok f field k at is below
 writes m ok f field needs k byte kind.Controller at is below = addressed m ok f field k at is below
 
-on_field : (m : MachineData) → IsMachine m → (f : ℕ) (field : Field) → slice_get m.fields f ≡ Some field → IsTrueOn (fits m) field
+pub on_field : (m : MachineData) → IsMachine m → (f : ℕ) (field : Field) → slice_get m.fields f ≡ Some field → IsTrueOn (fits m) field
 on_field m ok f field at = record {
   lock = λ n. (refl, refl);
   burst = λ b. (refl, refl);
@@ -109,39 +109,39 @@ on_field m ok f field at = record {
 
 -- ---- a script
 
-of_script : (m : MachineData) → IsMachine m → (ops : List Op) → HaveCodes ops → Each (fits m) (plan m.fields ops)
+pub of_script : (m : MachineData) → IsMachine m → (ops : List Op) → HaveCodes ops → Each (fits m) (plan m.fields ops)
 of_script m ok ops codes = each (fits m) m.fields ops (on_field m ok) (λ i o a at is. alone m o a (each_all HasCode ops codes i o at) is)
 
-none_pushed : HaveCodes []
+pub none_pushed : HaveCodes []
 none_pushed k d below = absurd (omega arith)
 
-of_firmware : (m : MachineData) → IsMachine m → (k : ℕ) (found : Option (List Op)) → slice_get m.firmware k ≡ found → HaveCodes (unwrap_or found [])
+pub of_firmware : (m : MachineData) → IsMachine m → (k : ℕ) (found : Option (List Op)) → slice_get m.firmware k ≡ found → HaveCodes (unwrap_or found [])
 of_firmware m ok k None at = none_pushed
 of_firmware m ok k (Some ops) at = (each_all (IsHandler m side.Firmware) m.firmware ok.firmware k ops at).codes
 
 -- the handler that is found in a list is one of its items' or none
-either : (b : Bool) (one other : List Op) → HaveCodes one → HaveCodes other → HaveCodes (cond b one other)
+pub either : (b : Bool) (one other : List Op) → HaveCodes one → HaveCodes other → HaveCodes (cond b one other)
 either true one other first second = first
 either false one other first second = second
 
-of_events : (m : MachineData) (events : List ListedEvent) (n : Event) → ((i : ℕ) (l : ListedEvent) → slice_get events i ≡ Some l → HaveCodes l.script) → HaveCodes (script_in events n)
+pub of_events : (m : MachineData) (events : List ListedEvent) (n : Event) → ((i : ℕ) (l : ListedEvent) → slice_get events i ≡ Some l → HaveCodes l.script) → HaveCodes (script_in events n)
 of_events m [] n all = none_pushed
 of_events m (l ∷ events) n all = either (same_event l.listed.event n) l.script (script_in events n) (all 0 l refl) (of_events m events n (λ i. all (suc i)))
 
-of_queries : (m : MachineData) (queries : List Query) (q : ℕ) → ((i : ℕ) (h : Query) → slice_get queries i ≡ Some h → HaveCodes h.script) → HaveCodes (query_in queries q)
+pub of_queries : (m : MachineData) (queries : List Query) (q : ℕ) → ((i : ℕ) (h : Query) → slice_get queries i ≡ Some h → HaveCodes h.script) → HaveCodes (query_in queries q)
 of_queries m [] q all = none_pushed
 of_queries m (h ∷ queries) q all = either (h.code == q) h.script (query_in queries q) (all 0 h refl) (of_queries m queries q (λ i. all (suc i)))
 
-of_query : (m : MachineData) → Each (fits m) query_plan
+pub of_query : (m : MachineData) → Each (fits m) query_plan
 of_query m = (refl, λ _. (refl, λ _. (refl, λ _. tt)))
 
-of_job : (m : MachineData) → IsMachine m → (j : Option Job) → Each (fits m) (job_plan m j)
+pub of_job : (m : MachineData) → IsMachine m → (j : Option Job) → Each (fits m) (job_plan m j)
 of_job m ok None = tt
 of_job m ok (Some (job.Event n)) = of_script m ok (event_script m n) (of_events m m.events n (λ i l at. (each_all (IsListed m) m.events ok.events i l at).script.codes))
 of_job m ok (Some job.Query) = of_query m
 of_job m ok (Some (job.Code q)) = of_script m ok (code_script m q) (of_queries m (queries_in m) q (λ i h at. (each_all (IsQuery m) (queries_in m) ok.queries i h at).script.codes))
 
-at_first : (m : MachineData) → IsMachine m → (a : Actor) → Each (fits m) (first_plan m a)
+pub at_first : (m : MachineData) → IsMachine m → (a : Actor) → Each (fits m) (first_plan m a)
 at_first m ok (actor.Firmware k) = of_script m ok (script_of m k) (of_firmware m ok k (slice_get m.firmware k) refl)
 at_first m ok actor.Int = tt
 at_first m ok actor.Poll = tt
@@ -151,15 +151,15 @@ at_first m ok (actor.Device k) = tt
 
 -- ---- what is left
 
-passed : (m : MachineData) (v : ℕ) (p : Plan) → Each (fits m) p → Each (fits m) (plan_after v p)
+pub passed : (m : MachineData) (v : ℕ) (p : Plan) → Each (fits m) p → Each (fits m) (plan_after v p)
 passed m v End all = tt
 passed m v (Do needs a next) all = all.1 v
 
-passed_if : (m : MachineData) (b : Bool) (v : ℕ) (p : Plan) → Each (fits m) p → Each (fits m) (cond b (plan_after v p) p)
+pub passed_if : (m : MachineData) (b : Bool) (v : ℕ) (p : Plan) → Each (fits m) p → Each (fits m) (cond b (plan_after v p) p)
 passed_if m true v p all = passed m v p all
 passed_if m false v p all = all
 
-after : (m : MachineData) → IsMachine m → (made : List Job) (d : Deed) (p : Plan) → Each (fits m) p → Each (fits m) (left_after m made d p)
+pub after : (m : MachineData) → IsMachine m → (made : List Job) (d : Deed) (p : Plan) → Each (fits m) p → Each (fits m) (left_after m made d p)
 after m ok made (deed.Start j) p all = of_job m ok (slice_get made j)
 after m ok made (deed.Finish j) p all = tt
 after m ok made d p all = passed_if m (passes d) (answer_of d) p all
@@ -177,7 +177,7 @@ abbrev pub SomeFits : MachineData → Option Act → Type 0
 SomeFits m None = Unit {0}
 SomeFits m (Some a) = (needs : Bool) × (fits m needs a ≡ true)
 
-next_in : (m : MachineData) (p : Plan) → Each (fits m) p → SomeFits m (next_act p)
+pub next_in : (m : MachineData) (p : Plan) → Each (fits m) p → SomeFits m (next_act p)
 next_in m End all = tt
 next_in m (Do needs a next) all = (needs, all.0)
 

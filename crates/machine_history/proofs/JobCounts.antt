@@ -25,11 +25,11 @@ abbrev pub is_finish : Deed → ℕ
 is_finish (deed.Finish j) = 1
 is_finish _ = 0
 
-some_runs : (j : ℕ) (o : Option ℕ) → same_number (Some j) o ≡ true → one (is_some o) ≡ 1
+pub some_runs : (j : ℕ) (o : Option ℕ) → same_number (Some j) o ≡ true → one (is_some o) ≡ 1
 some_runs j None is = cc
 some_runs j (Some k) is = refl
 
-finish_step : (m : MachineData) (past : List Entry) (a : Actor) (d : Deed) → Allowed m past (record { actor = a; deed = d })
+pub finish_step : (m : MachineData) (past : List Entry) (a : Actor) (d : Deed) → Allowed m past (record { actor = a; deed = d })
     → is_finish d + one (is_some (running_after d (running past a))) ≤ is_start d + one (is_some (running past a))
 finish_step m past a (deed.Start j) ok = omega arith
 finish_step m past a (deed.Finish j) ok = let runs = some_runs j (running past a) (hold m past a (deed.Finish j) ok).1.1.0 in omega arith
@@ -53,29 +53,29 @@ abbrev pub made_in : (Option Job → ℕ) → MachineData → Count
 made_in w m past e = made_worth w (made m past e)
 
 -- what the jobs that wait are worth
-abbrev waits : (Option Job → ℕ) → List Job → ℕ → ℕ
+abbrev pub waits : (Option Job → ℕ) → List Job → ℕ → ℕ
 waits w js k = sum_of (λ j. w (Some j)) (drop k js)
 
-drop-get : (w : Option Job → ℕ) (js : List Job) (k : ℕ) → k < length js → waits w js k ≡ w (slice_get js k) + waits w js (suc k)
+pub drop-get : (w : Option Job → ℕ) (js : List Job) (k : ℕ) → k < length js → waits w js k ≡ w (slice_get js k) + waits w js (suc k)
 drop-get w [] k below = absurd (omega arith)
 drop-get w (j ∷ js) zero below = refl
 drop-get w (j ∷ js) (suc k) below = drop-get w js k (omega arith)
 
-drop-push : (w : Option Job → ℕ) (js : List Job) (j : Job) (k : ℕ) → k ≤ length js → waits w (js ++ j ∷ []) k ≡ waits w js k + w (Some j)
+pub drop-push : (w : Option Job → ℕ) (js : List Job) (j : Job) (k : ℕ) → k ≤ length js → waits w (js ++ j ∷ []) k ≡ waits w js k + w (Some j)
 drop-push w [] j zero within = omega arith
 drop-push w [] j (suc k) within = absurd (omega arith)
 drop-push w (x ∷ js) j zero within = let rest = drop-push w js j zero (omega arith) in omega arith
 drop-push w (x ∷ js) j (suc k) within = drop-push w js j k (omega arith)
 
-length-push : (js : List Job) (j : Job) → length (js ++ j ∷ []) ≡ length js + 1
+pub length-push : (js : List Job) (j : Job) → length (js ++ j ∷ []) ≡ length js + 1
 length-push [] j = refl
 length-push (x ∷ js) j = let rest = length-push js j in omega arith
 
-length-grown : (js : List Job) (o : Option Job) → length js ≤ length (and_job js o)
+pub length-grown : (js : List Job) (o : Option Job) → length js ≤ length (and_job js o)
 length-grown js None = omega arith
 length-grown js (Some j) = let more = length-push js j in omega arith
 
-grown : (w : Option Job → ℕ) (js : List Job) (o : Option Job) (k : ℕ) → k ≤ length js → waits w (and_job js o) k ≡ waits w js k + made_worth w o
+pub grown : (w : Option Job → ℕ) (js : List Job) (o : Option Job) (k : ℕ) → k ≤ length js → waits w (and_job js o) k ≡ waits w js k + made_worth w o
 grown w js None k within = omega arith
 grown w js (Some j) k within = drop-push w js j k within
 
@@ -89,10 +89,10 @@ start_parts m past a j may =
 abbrev pub StartedAt : (Option Job → ℕ) → MachineData → List Entry → Type 0
 StartedAt w m past = (starts past ≤ length (jobs m past)) × (total (started w m) past + waits w (jobs m past) (starts past) ≡ total (made_in w m) past)
 
-abbrev entry : Actor → Deed → Entry
+abbrev pub entry : Actor → Deed → Entry
 entry a d = record { actor = a; deed = d }
 
-other_step : (w : Option Job → ℕ) (m : MachineData) (past : List Entry) (o : Option Job) → StartedAt w m past
+pub other_step : (w : Option Job → ℕ) (m : MachineData) (past : List Entry) (o : Option Job) → StartedAt w m past
     → (starts past ≤ length (and_job (jobs m past) o)) × ((0 + total (started w m) past) + waits w (and_job (jobs m past) o) (starts past) ≡ made_worth w o + total (made_in w m) past)
 other_step w m past o before =
     let within = before.0 in
@@ -101,7 +101,7 @@ other_step w m past o before =
     let more = grown w (jobs m past) o (starts past) within in
     (omega arith, omega arith)
 
-started_step : (w : Option Job → ℕ) (m : MachineData) (past : List Entry) (a : Actor) (d : Deed) → Allowed m past (entry a d) → StartedAt w m past → StartedAt w m (entry a d ∷ past)
+pub started_step : (w : Option Job → ℕ) (m : MachineData) (past : List Entry) (a : Actor) (d : Deed) → Allowed m past (entry a d) → StartedAt w m past → StartedAt w m (entry a d ∷ past)
 started_step w m past a (deed.Start j) ok before =
     let p = start_parts m past a j (hold m past a (deed.Start j) ok).1.1.0 in
     let less : starts past < length (jobs m past) = p.1 in
@@ -125,7 +125,7 @@ pub few_started : (w : Option Job → ℕ) (m : MachineData) (past : List Entry)
 few_started w m past legal = let all = (started_is w m past legal).1 in omega arith
 
 -- a firmware starts no job
-no_start : (w : Option Job → ℕ) (m : MachineData) (past : List Entry) (k : ℕ) (d : Deed) → Allowed m past (entry (actor.Firmware k) d) → started w m past (entry (actor.Firmware k) d) ≡ 0
+pub no_start : (w : Option Job → ℕ) (m : MachineData) (past : List Entry) (k : ℕ) (d : Deed) → Allowed m past (entry (actor.Firmware k) d) → started w m past (entry (actor.Firmware k) d) ≡ 0
 no_start w m past k (deed.Start j) ok = let works = (hold m past (actor.Firmware k) (deed.Start j) ok).0 in cc
 no_start w m past k _ ok = refl
 

@@ -23,7 +23,7 @@ use Rattle.machine_history.proofs.Stages.{by_own}
 use Rattle.machine_history.proofs.Totals.{by_deed, one, one_small, own, total, when}
 
 -- a count over a history, oldest first, is a total over its past
-count-total : (p : Deed → Bool) (past : List Entry) → count_by (λ (e : Entry). p e.deed) (reverse past) ≡ total (by_deed (λ d. one (p d))) past
+pub count-total : (p : Deed → Bool) (past : List Entry) → count_by (λ (e : Entry). p e.deed) (reverse past) ≡ total (by_deed (λ d. one (p d))) past
 count-total p [] = refl
 count-total p (e ∷ past) =
     let rest = count-total p past in
@@ -33,13 +33,13 @@ count-total p (e ∷ past) =
 
 -- ---- the starts, in order
 
-started-push : (past : List Entry) (e : Entry) → started_in (reverse (e ∷ past)) ≡ started_in (reverse past) ++ filter_map (λ (x : Entry). start_by x.deed) (e ∷ [])
+pub started-push : (past : List Entry) (e : Entry) → started_in (reverse (e ∷ past)) ≡ started_in (reverse past) ++ filter_map (λ (x : Entry). start_by x.deed) (e ∷ [])
 started-push past e = ap started_in (reverse-cons e past) ∙ filter_map-append (λ (x : Entry). start_by x.deed) (reverse past) (e ∷ [])
 
-abbrev entry : Actor → Deed → Entry
+abbrev pub entry : Actor → Deed → Entry
 entry a d = record { actor = a; deed = d }
 
-started-length : (past : List Entry) → length (started_in (reverse past)) ≡ starts past
+pub started-length : (past : List Entry) → length (started_in (reverse past)) ≡ starts past
 started-length [] = refl
 started-length (e ∷ past) = ap length (started-push past e) ∙ at e.actor e.deed (started-length past)
   where
@@ -47,10 +47,10 @@ started-length (e ∷ past) = ap length (started-push past e) ∙ at e.actor e.d
     at a (deed.Start j) rest = length_push (started_in (reverse past)) j ∙ ap (λ k. k + 1) rest
     at a _ rest = ap length (append-nil (started_in (reverse past))) ∙ rest
 
-InOrder : List ℕ → Type 0
+pub InOrder : List ℕ → Type 0
 InOrder js = (k j : ℕ) → slice_get js k ≡ Some j → j ≡ k
 
-order_push : (js : List ℕ) (j : ℕ) → j ≡ length js → InOrder js → InOrder (js ++ j ∷ [])
+pub order_push : (js : List ℕ) (j : ℕ) → j ≡ length js → InOrder js → InOrder (js ++ j ∷ [])
 unfolding InOrder
 order_push js j is before k x at =
     elim (slice_get-push js j k x at) [
@@ -58,7 +58,7 @@ order_push js j is before k x at =
       | inr last ↦ sym last.1 ∙ (is ∙ sym last.0)
     ]
 
-in_order : (m : MachineData) (past : List Entry) → LegalPast m past → InOrder (started_in (reverse past))
+pub in_order : (m : MachineData) (past : List Entry) → LegalPast m past → InOrder (started_in (reverse past))
 unfolding InOrder
 in_order m [] legal = λ k j at. cc
 in_order m (e ∷ past) legal = subst InOrder (sym (started-push past e)) (at e.actor e.deed legal.0 (in_order m past legal.1))
@@ -70,7 +70,7 @@ in_order m (e ∷ past) legal = subst InOrder (sym (started-push past e)) (at e.
 -- ---- once
 
 -- a job was started where its number is below the number of starts
-started_once : (m : MachineData) (j : ℕ) (past : List Entry) → LegalPast m past → total (by_deed (λ d. one (is_start_of j d))) past ≡ one (nat_lt j (starts past))
+pub started_once : (m : MachineData) (j : ℕ) (past : List Entry) → LegalPast m past → total (by_deed (λ d. one (is_start_of j d))) past ≡ one (nat_lt j (starts past))
 started_once m j [] legal = let none : one (nat_lt j 0) ≡ 0 = ap one (le-ltb j 0 (omega arith)) in omega arith
 started_once m j (e ∷ past) legal = at e.actor e.deed legal.0 (started_once m j past legal.1)
   where
@@ -98,27 +98,27 @@ started_once m j (e ∷ past) legal = at e.actor e.deed legal.0 (started_once m 
 
 -- ---- finishes
 
-runs : ℕ → Option ℕ → ℕ
+pub runs : ℕ → Option ℕ → ℕ
 runs j None = 0
 runs j (Some k) = one (k == j)
 
-runs_same : (j k : ℕ) (o : Option ℕ) → same_number (Some k) o ≡ true → runs j o ≡ one (k == j)
+pub runs_same : (j k : ℕ) (o : Option ℕ) → same_number (Some k) o ≡ true → runs j o ≡ one (k == j)
 unfolding runs
 runs_same j k None is = cc
 runs_same j k (Some x) is = ap (λ y. one (y == j)) (sym (eqb-true k x is))
 
-runs_none : (j : ℕ) (o : Option ℕ) → o ≡ None → runs j o ≡ 0
+pub runs_none : (j : ℕ) (o : Option ℕ) → o ≡ None → runs j o ≡ 0
 unfolding runs
 runs_none j o is = ap (runs j) is
 
-finish_step : (m : MachineData) (j : ℕ) (past : List Entry) (a : Actor) (d : Deed) → Allowed m past (entry a d) → one (is_finish_of j d) + runs j (running_after d (running past a)) ≡ one (is_start_of j d) + runs j (running past a)
+pub finish_step : (m : MachineData) (j : ℕ) (past : List Entry) (a : Actor) (d : Deed) → Allowed m past (entry a d) → one (is_finish_of j d) + runs j (running_after d (running past a)) ≡ one (is_start_of j d) + runs j (running past a)
 unfolding runs
 finish_step m j past a (deed.Start k) ok = let free = runs_none j (running past a) (start_free m past a k (hold m past a (deed.Start k) ok).1.1.0) in omega arith
 finish_step m j past a (deed.Finish k) ok = let is = runs_same j k (running past a) (hold m past a (deed.Finish k) ok).1.1.0 in omega arith
 finish_step m j past a _ ok = refl
 
 -- what an actor started it finished, but for the job that it runs
-finishes_of : (m : MachineData) (j : ℕ) (a : Actor) (past : List Entry) → LegalPast m past → total (own a (by_deed (λ d. one (is_finish_of j d)))) past + runs j (running past a) ≡ total (own a (by_deed (λ d. one (is_start_of j d)))) past
+pub finishes_of : (m : MachineData) (j : ℕ) (a : Actor) (past : List Entry) → LegalPast m past → total (own a (by_deed (λ d. one (is_finish_of j d)))) past + runs j (running past a) ≡ total (own a (by_deed (λ d. one (is_start_of j d)))) past
 unfolding runs
 finishes_of m j a [] legal = refl
 finishes_of m j a (e ∷ past) legal =
@@ -128,7 +128,7 @@ finishes_of m j a (e ∷ past) legal =
     (λ other. refl) in
     omega arith
 
-start_by_worker : (m : MachineData) (j : ℕ) → ByScripts m (by_deed (λ d. one (is_start_of j d)))
+pub start_by_worker : (m : MachineData) (j : ℕ) → ByScripts m (by_deed (λ d. one (is_start_of j d)))
 start_by_worker m j past e ok = at e.actor e.deed ok
   where
     works : (a : Actor) → is_worker m a ≡ true → runs_scripts m a ≡ true
@@ -138,7 +138,7 @@ start_by_worker m j past e ok = at e.actor e.deed ok
     at a (deed.Start k) ok = inr (works a (hold m past a (deed.Start k) ok).0)
     at a _ ok = inl refl
 
-finish_by : (m : MachineData) (j : ℕ) → ByScripts m (by_deed (λ d. one (is_finish_of j d)))
+pub finish_by : (m : MachineData) (j : ℕ) → ByScripts m (by_deed (λ d. one (is_finish_of j d)))
 finish_by m j past e ok = at e.actor e.deed ok
   where
     works : (a : Actor) → is_worker m a ≡ true → runs_scripts m a ≡ true
@@ -148,11 +148,11 @@ finish_by m j past e ok = at e.actor e.deed ok
     at a (deed.Finish k) ok = inr (works a (hold m past a (deed.Finish k) ok).0)
     at a _ ok = inl refl
 
-few_finishes : (m : MachineData) (j : ℕ) (past : List Entry) → LegalPast m past → total (by_deed (λ d. one (is_finish_of j d))) past ≤ total (by_deed (λ d. one (is_start_of j d))) past
+pub few_finishes : (m : MachineData) (j : ℕ) (past : List Entry) → LegalPast m past → total (by_deed (λ d. one (is_finish_of j d))) past ≤ total (by_deed (λ d. one (is_start_of j d))) past
 few_finishes m j past legal = by_actors m (by_deed (λ d. one (is_finish_of j d))) (by_deed (λ d. one (is_start_of j d))) (finish_by m j) (λ a p lp. (let one_actor = finishes_of m j a p lp in omega arith)) past legal
 
 -- where nobody runs a job each that was started was finished
-all_finished : (m : MachineData) (j : ℕ) (past : List Entry) → LegalPast m past → ((a : Actor) → running past a ≡ None) → total (by_deed (λ d. one (is_start_of j d))) past ≤ total (by_deed (λ d. one (is_finish_of j d))) past
+pub all_finished : (m : MachineData) (j : ℕ) (past : List Entry) → LegalPast m past → ((a : Actor) → running past a ≡ None) → total (by_deed (λ d. one (is_start_of j d))) past ≤ total (by_deed (λ d. one (is_finish_of j d))) past
 all_finished m j past legal none =
     let split = within_over m (by_deed (λ d. one (is_start_of j d))) (start_by_worker m j) past legal in
     let each = over-le m (λ a. total (own a (by_deed (λ d. one (is_start_of j d)))) past) (λ a. total (own a (by_deed (λ d. one (is_finish_of j d)))) past)
@@ -160,7 +160,7 @@ all_finished m j past legal none =
     let joined = over_within m (by_deed (λ d. one (is_finish_of j d))) past in
     omega arith
 
-of_past : (m : MachineData) (past : List Entry) → LegalPast m past → JobsInOrder m (reverse past)
+pub of_past : (m : MachineData) (past : List Entry) → LegalPast m past → JobsInOrder m (reverse past)
 unfolding InOrder
 of_past m past legal = record {
   in_order = in_order m past legal;
@@ -173,7 +173,7 @@ pub jobs_in_order : (m : MachineData) (history : List Entry) → Legal m history
 jobs_in_order m history legal = subst (JobsInOrder m) (reverse-reverse history) (of_past m (reverse history) legal)
 
 -- the history is the reverse of its past
-count_past : (p : Deed → Bool) (history : List Entry) → count_by (λ (e : Entry). p e.deed) history ≡ total (by_deed (λ d. one (p d))) (reverse history)
+pub count_past : (p : Deed → Bool) (history : List Entry) → count_by (λ (e : Entry). p e.deed) history ≡ total (by_deed (λ d. one (p d))) (reverse history)
 count_past p history = ap (count_by (λ (e : Entry). p e.deed)) (sym (reverse-reverse history)) ∙ count-total p (reverse history)
 
 pub jobs_done : (m : MachineData) (history : List Entry) → Complete m history → JobsDone m history

@@ -71,20 +71,20 @@ abbrev pub Kept : MachineData → List Entry → Actor → Type 0
 Kept m past a = KeptAt a (is_worker m a) (stage a past) (plan_left m past a) (open_of past) (running past a)
 
 -- where the next act is no request, nothing is asked
-unasking : (a : Actor) (x : Option Act) (oo : Option Open) (y : Option Act) → AsksAt a x oo → ((r : Request) → x ≡ Some (act.Ask r) → ⊥) → AsksAt a y oo
+pub unasking : (a : Actor) (x : Option Act) (oo : Option Open) (y : Option Act) → AsksAt a x oo → ((r : Request) → x ≡ Some (act.Ask r) → ⊥) → AsksAt a y oo
 unasking a x None y asks none = tt
 unasking a x (Some o) y asks none = λ same. absurd (none o.asks (asks same))
 
-asks_moved : (a : Actor) (x : Option Act) (oo : Option Open) → AsksAt a x oo → AsksAt a x (moved oo)
+pub asks_moved : (a : Actor) (x : Option Act) (oo : Option Open) → AsksAt a x oo → AsksAt a x (moved oo)
 asks_moved a x None asks = tt
 asks_moved a x (Some o) asks = asks
 
-asks_put : (a : Actor) (x : Option Act) (v : ℕ) (oo : Option Open) → AsksAt a x oo → AsksAt a x (put_out v oo)
+pub asks_put : (a : Actor) (x : Option Act) (v : ℕ) (oo : Option Open) → AsksAt a x oo → AsksAt a x (put_out v oo)
 asks_put a x v None asks = tt
 asks_put a x v (Some o) asks = asks
 
 -- an act of its own is passed that is neither Lock nor a request
-passed_plain : (a : Actor) (w : Bool) (st : Stage) (p q : Plan) (oo : Option Open) (r : Option ℕ) (x : Act) → next_act p ≡ Some x → (x ≡ act.Lock → ⊥) → ((s : Request) → x ≡ act.Ask s → ⊥) → KeptAt a w st p oo r → KeptAt a w st q oo r
+pub passed_plain : (a : Actor) (w : Bool) (st : Stage) (p q : Plan) (oo : Option Open) (r : Option ℕ) (x : Act) → next_act p ≡ Some x → (x ≡ act.Lock → ⊥) → ((s : Request) → x ≡ act.Ask s → ⊥) → KeptAt a w st p oo r → KeptAt a w st q oo r
 passed_plain a w st p q oo r x next no_lock no_ask kept = (
   λ trying. absurd (no_lock (same x act.Lock (sym next ∙ kept.0 trying))),
   unasking a (next_act p) oo (next_act q) kept.1 (λ s is. no_ask s (same x (act.Ask s) (sym next ∙ is))),
@@ -97,7 +97,7 @@ passed_plain a w st p q oo r x next no_lock no_ask kept = (
     none : (y : Act) → Some y ≡ next_act End → ⊥
     none y is = cc
 
-plain_kept : (a : Actor) (w : Bool) (st : Stage) (p q : Plan) (oo : Option Open) (r : Option ℕ) (d : Deed) → is_plain d ≡ true → asked_by (next_act p) d ≡ true → KeptAt a w st p oo r → KeptAt a w st q oo r
+pub plain_kept : (a : Actor) (w : Bool) (st : Stage) (p q : Plan) (oo : Option Open) (r : Option ℕ) (d : Deed) → is_plain d ≡ true → asked_by (next_act p) d ≡ true → KeptAt a w st p oo r → KeptAt a w st q oo r
 plain_kept a w st p q oo r d plain is kept =
     let next = some_asked (next_act p) d is in
     passed_plain a w st p q oo r next.0 next.1 (λ lock. lock_plain d plain (ap (λ y. asked y d) (sym lock) ∙ next.2)) (λ s ask. ask_plain s d plain (ap (λ y. asked y d) (sym ask) ∙ next.2)) kept
@@ -106,7 +106,7 @@ pub opener_asks : (a : Actor) (x : Option Act) (oo : Option Open) → is_opener 
 opener_asks a x None is asks = cc
 opener_asks a x (Some o) is asks = (o, refl, is, asks is)
 
-abbrev start_parts : MachineData → List Entry → Actor → ℕ → Type 0
+abbrev pub start_parts : MachineData → List Entry → Actor → ℕ → Type 0
 start_parts m past a j = (running past a ≡ None) × (j ≡ starts past)
 
 pub start_free : (m : MachineData) (past : List Entry) (a : Actor) (j : ℕ) → may_start m past a j ≡ true → running past a ≡ None
@@ -116,13 +116,13 @@ start_free m past a j may =
     is_none-none (running past a) q.0
 
 -- nothing is tried or asked where nothing is next
-idle_trying : (st : Stage) (p : Plan) → next_act p ≡ None → (is_trying_at st ≡ true → next_act p ≡ Some act.Lock) → is_trying_at st ≡ true → ⊥
+pub idle_trying : (st : Stage) (p : Plan) → next_act p ≡ None → (is_trying_at st ≡ true → next_act p ≡ Some act.Lock) → is_trying_at st ≡ true → ⊥
 idle_trying st p none kept trying = let lock = kept trying in cc
 
-idle_asking : (a : Actor) (x : Option Act) (oo : Option Open) (y : Option Act) → x ≡ None → AsksAt a x oo → AsksAt a y oo
+pub idle_asking : (a : Actor) (x : Option Act) (oo : Option Open) (y : Option Act) → x ≡ None → AsksAt a x oo → AsksAt a y oo
 idle_asking a x oo y none asks = unasking a x oo y asks (λ r is. cc)
 
-own_kept : (m : MachineData) (past : List Entry) (a : Actor) (d : Deed) → Allowed m past (record { actor = a; deed = d }) → Follows d (stage a past) → Kept m past a
+pub own_kept : (m : MachineData) (past : List Entry) (a : Actor) (d : Deed) → Allowed m past (record { actor = a; deed = d }) → Follows d (stage a past) → Kept m past a
     → KeptAt a (is_worker m a) (stage_after d (stage a past)) (left_after m (jobs m past) d (plan_left m past a)) (open_after a d (open_of past)) (running_after d (running past a))
 own_kept m past a deed.Seek ok f kept = let h = hold m past a deed.Seek ok in (λ trying. next_lock (next_of m past a) h.1.1.0, kept.1, kept.2)
 own_kept m past a deed.Busy ok f kept = (λ trying. kept.0 (ap is_trying_at f), kept.1, kept.2)
@@ -173,7 +173,7 @@ own_kept m past a (deed.Up n) ok f kept = plain_kept a (is_worker m a) (stage a 
 own_kept m past a (deed.Down n) ok f kept = plain_kept a (is_worker m a) (stage a past) (plan_left m past a) _ (open_of past) (running past a) (deed.Down n) refl (hold m past a (deed.Down n) ok).1.1.0 kept
 
 -- another's entry
-other_asks : (past : List Entry) (a b : Actor) (x : Option Act) (d : Deed) → same_actor a b ≡ false → AsksAt a x (open_of past) → AsksAt a x (open_after b d (open_of past))
+pub other_asks : (past : List Entry) (a b : Actor) (x : Option Act) (d : Deed) → same_actor a b ≡ false → AsksAt a x (open_of past) → AsksAt a x (open_after b d (open_of past))
 other_asks past a b x (deed.Begin r) other asks = λ same. cc
 other_asks past a b x (deed.Take v) other asks = tt
 other_asks past a b x (deed.Step g) other asks = asks_moved a x (open_of past) asks
@@ -183,7 +183,7 @@ other_asks past a b x (deed.Ctl effect.Put) other asks = asks_moved a x (open_of
 other_asks past a b x (deed.Ctl (effect.Out v)) other asks = asks_put a x v (open_of past) asks
 other_asks past a b x _ other asks = asks
 
-first_end : (m : MachineData) (a : Actor) → is_worker m a ≡ true → first_plan m a ≡ End
+pub first_end : (m : MachineData) (a : Actor) → is_worker m a ≡ true → first_plan m a ≡ End
 first_end m (actor.Worker k) works = refl
 first_end m actor.Int works = refl
 first_end m actor.Poll works = refl

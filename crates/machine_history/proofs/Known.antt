@@ -80,7 +80,7 @@ other_someone a b (Some c) other is = rw (← same_actor-true b c is) other
 
 -- ---- events, cells and requests
 
-same_fixed : (f g : Fixed) → (fixed_rank f == fixed_rank g) ≡ true → f ≡ g
+pub same_fixed : (f g : Fixed) → (fixed_rank f == fixed_rank g) ≡ true → f ≡ g
 same_fixed fixed.Tmr fixed.Tmr same = refl
 same_fixed fixed.Gbl fixed.Gbl same = refl
 same_fixed fixed.Pwr fixed.Pwr same = refl
@@ -98,7 +98,7 @@ pub same_event-self : (n : Event) → same_event n n ≡ true
 same_event-self (event.Fixed f) = eq-eqb (fixed_rank f) (fixed_rank f) refl
 same_event-self (event.Gpe k) = eq-eqb k k refl
 
-equal_swap : (j k : ℕ) → (j == k) ≡ (k == j)
+pub equal_swap : (j k : ℕ) → (j == k) ≡ (k == j)
 equal_swap j k = elim (cases_Bool (k == j)) [
   | inl same ↦ eq-eqb j k (sym (eqb-true k j same)) ∙ sym same
   | inr other ↦ ne_eqb j k (λ same. eqb-false k j other (sym same)) ∙ sym other
@@ -110,7 +110,7 @@ same_event-swap (event.Gpe j) (event.Gpe k) = equal_swap j k
 same_event-swap (event.Fixed f) (event.Gpe k) = refl
 same_event-swap (event.Gpe j) (event.Fixed g) = refl
 
-abbrev cell_at : ℕ → ℕ → Cell
+abbrev pub cell_at : ℕ → ℕ → Cell
 cell_at region offset = record { region = region; offset = offset }
 
 pub same_cell-true : (c d : Cell) → same_cell c d ≡ true → c ≡ d

@@ -49,10 +49,10 @@ use Rattle.machine_history.proofs.Queries.{next_status, slot_kind, status_next}
 -- ---- the sentence, once for all
 
 -- what stands before a place stays when the history grows
-past-push : (history : List Entry) (e : Entry) (i : ℕ) → i ≤ length history → past_of (history ++ e ∷ []) i ≡ past_of history i
+pub past-push : (history : List Entry) (e : Entry) (i : ℕ) → i ≤ length history → past_of (history ++ e ∷ []) i ≡ past_of history i
 past-push history e i within = ap reverse (take-append-le i history (e ∷ []) within)
 
-past-seam : (past : List Entry) (e : Entry) → past_of (reverse past ++ e ∷ []) (length (reverse past)) ≡ past
+pub past-seam : (past : List Entry) (e : Entry) → past_of (reverse past ++ e ∷ []) (length (reverse past)) ≡ past
 past-seam past e = ap reverse (take-append_seam (reverse past) (e ∷ [])) ∙ reverse-reverse past
 
 -- one entry more
@@ -64,7 +64,7 @@ at_push sets past e i v at =
 pub at_seam : {X : Type 0} (sets : List Entry → Entry → Option X) (past : List Entry) (e : Entry) (v : X) → sets past e ≡ Some v → SetsAt sets (reverse past ++ e ∷ []) (length (reverse past)) v
 at_seam sets past e v is = (e, slice_get-seam (reverse past) e, ap (λ p. sets p e) (past-seam past e) ∙ is)
 
-from_push : {X : Type 0} (sets : List Entry → Entry → Option X) (past : List Entry) (e : Entry) (i : ℕ) (v : X) → SetsAt sets (reverse past ++ e ∷ []) i v
+pub from_push : {X : Type 0} (sets : List Entry → Entry → Option X) (past : List Entry) (e : Entry) (i : ℕ) (v : X) → SetsAt sets (reverse past ++ e ∷ []) i v
     → ((i < length (reverse past)) × SetsAt sets (reverse past) i v) ⊎ ((i ≡ length (reverse past)) × (sets past e ≡ Some v))
 from_push sets past e i v at =
     elim (slice_get-push (reverse past) e i at.0 at.1) [
@@ -72,7 +72,7 @@ from_push sets past e i v at =
       | inr last ↦ inr (last.0, ap (sets past) last.1 ∙ (ap (λ p. sets p at.0) (sym (ap (past_of (reverse past ++ e ∷ [])) last.0 ∙ past-seam past e)) ∙ at.2))
     ]
 
-grown : {X : Type 0} (sets : List Entry → Entry → Option X) (first : X) (past : List Entry) (e : Entry) (old : X) → IsLast sets first (reverse past) old → (o : Option X) → sets past e ≡ o → IsLast sets first (reverse past ++ e ∷ []) (unwrap_or o old)
+pub grown : {X : Type 0} (sets : List Entry → Entry → Option X) (first : X) (past : List Entry) (e : Entry) (old : X) → IsLast sets first (reverse past) old → (o : Option X) → sets past e ≡ o → IsLast sets first (reverse past ++ e ∷ []) (unwrap_or o old)
 grown {X} sets first past e old before None none = record {
   set = λ i v last. elim (from_push sets past e i v last.0) [
     | inl left ↦ before.set i v (left.1, λ j w behind at. last.1 j w behind (at_push sets past e j w at))
@@ -140,11 +140,11 @@ last_entry {X} sets state step history = subst (λ h. IsLast sets (state []) h (
 
 -- ---- states by actor and deed alone
 
-if_wanted : {X : Type 0} (b : Bool) (x old : X) → (if b then x else old) ≡ unwrap_or (where_true b x) old
+pub if_wanted : {X : Type 0} (b : Bool) (x old : X) → (if b then x else old) ≡ unwrap_or (where_true b x) old
 if_wanted true x old = refl
 if_wanted false x old = refl
 
-owner_step : (a : Actor) (d : Deed) (old : Option Actor) → owner_after a d old ≡ unwrap_or (owner_set a d) old
+pub owner_step : (a : Actor) (d : Deed) (old : Option Actor) → owner_after a d old ≡ unwrap_or (owner_set a d) old
 owner_step a deed.Own old = refl
 owner_step a deed.Disown old = refl
 owner_step a _ old = refl
@@ -152,7 +152,7 @@ owner_step a _ old = refl
 pub owner_last : (history : List Entry) → IsLast (told owner_set) None history (owner (reverse history))
 owner_last history = last_entry (told owner_set) owner (λ past e. owner_step e.actor e.deed (owner past)) history
 
-seeker_step : (s : Side) (a : Actor) (d : Deed) (old : Option Actor) → seeker_after s a d old ≡ unwrap_or (seeker_set s a d) old
+pub seeker_step : (s : Side) (a : Actor) (d : Deed) (old : Option Actor) → seeker_after s a d old ≡ unwrap_or (seeker_set s a d) old
 seeker_step s a deed.Seek old = if_wanted (stands_on s a) (Some a) old
 seeker_step s a (deed.Leave x) old = if_wanted (stands_on s a) None old
 seeker_step s a _ old = refl
@@ -161,11 +161,11 @@ pub seeker_last : (s : Side) (history : List Entry) → IsLast (told (seeker_set
 seeker_last s history = last_entry (told (seeker_set s)) (seeker s) (λ past e. seeker_step s e.actor e.deed (seeker s past)) history
 
 -- a word on an actor's own entries
-kept_if : {X : Type 0} (b : Bool) (x : X) → (if b then x else x) ≡ x
+pub kept_if : {X : Type 0} (b : Bool) (x : X) → (if b then x else x) ≡ x
 kept_if true x = refl
 kept_if false x = refl
 
-owned_step : (a b : Actor) (d : Deed) (old : Bool) → (if same_actor a b then owned_after d old else old) ≡ unwrap_or (owned_set a b d) old
+pub owned_step : (a b : Actor) (d : Deed) (old : Bool) → (if same_actor a b then owned_after d old else old) ≡ unwrap_or (owned_set a b d) old
 owned_step a b deed.Seek old = if_wanted (same_actor a b) false old
 owned_step a b deed.Own old = if_wanted (same_actor a b) true old
 owned_step a b _ old = kept_if (same_actor a b) old
@@ -173,7 +173,7 @@ owned_step a b _ old = kept_if (same_actor a b) old
 pub owned_last : (a : Actor) (history : List Entry) → IsLast (told (owned_set a)) false history (has_owned a (reverse history))
 owned_last a history = last_entry (told (owned_set a)) (has_owned a) (λ past e. owned_step a e.actor e.deed (has_owned a past)) history
 
-disowned_step : (a b : Actor) (d : Deed) (old : Bool) → (if same_actor a b then disowned_after d old else old) ≡ unwrap_or (disowned_set a b d) old
+pub disowned_step : (a b : Actor) (d : Deed) (old : Bool) → (if same_actor a b then disowned_after d old else old) ≡ unwrap_or (disowned_set a b d) old
 disowned_step a b deed.Seek old = if_wanted (same_actor a b) false old
 disowned_step a b deed.Disown old = if_wanted (same_actor a b) true old
 disowned_step a b _ old = kept_if (same_actor a b) old
@@ -181,7 +181,7 @@ disowned_step a b _ old = kept_if (same_actor a b) old
 pub disowned_last : (a : Actor) (history : List Entry) → IsLast (told (disowned_set a)) false history (has_disowned a (reverse history))
 disowned_last a history = last_entry (told (disowned_set a)) (has_disowned a) (λ past e. disowned_step a e.actor e.deed (has_disowned a past)) history
 
-busy_step : (a b : Actor) (d : Deed) (old : Bool) → (if same_actor a b then busy_after d old else old) ≡ unwrap_or (busy_set a b d) old
+pub busy_step : (a b : Actor) (d : Deed) (old : Bool) → (if same_actor a b then busy_after d old else old) ≡ unwrap_or (busy_set a b d) old
 busy_step a b deed.Seek old = if_wanted (same_actor a b) false old
 busy_step a b deed.Woken old = if_wanted (same_actor a b) false old
 busy_step a b deed.Busy old = if_wanted (same_actor a b) true old
@@ -190,7 +190,7 @@ busy_step a b _ old = kept_if (same_actor a b) old
 pub busy_last : (a : Actor) (history : List Entry) → IsLast (told (busy_set a)) false history (is_busy a (reverse history))
 busy_last a history = last_entry (told (busy_set a)) (is_busy a) (λ past e. busy_step a e.actor e.deed (is_busy a past)) history
 
-wake_step : (s : Side) (a : Actor) (d : Deed) (old : Bool) → wake_after s a d old ≡ unwrap_or (wake_set s a d) old
+pub wake_step : (s : Side) (a : Actor) (d : Deed) (old : Bool) → wake_after s a d old ≡ unwrap_or (wake_set s a d) old
 wake_step s a deed.Woken old = if_wanted (stands_on s a) false old
 wake_step side.Os a (deed.Claim n) old = if_wanted (is_gbl n) true old
 wake_step side.Firmware a (deed.Claim n) old = refl
@@ -204,7 +204,7 @@ wake_step side.Firmware a _ old = refl
 pub wake_last : (s : Side) (history : List Entry) → IsLast (told (wake_set s)) false history (wake s (reverse history))
 wake_last s history = last_entry (told (wake_set s)) (wake s) (λ past e. wake_step s e.actor e.deed (wake s past)) history
 
-gbl_step : (a : Actor) (d : Deed) (old : Bool) → gbl_after a d old ≡ unwrap_or (gbl_set a d) old
+pub gbl_step : (a : Actor) (d : Deed) (old : Bool) → gbl_after a d old ≡ unwrap_or (gbl_set a d) old
 gbl_step a (deed.Raise n) old = if_wanted (is_gbl n) true old
 gbl_step a (deed.Latch n) old = if_wanted (is_gbl n) true old
 gbl_step a (deed.Assert n) old = if_wanted (is_gbl n) true old
@@ -216,7 +216,7 @@ gbl_step a _ old = refl
 pub gbl_last : (history : List Entry) → IsLast (told gbl_set) false history (gbl_status (reverse history))
 gbl_last history = last_entry (told gbl_set) gbl_status (λ past e. gbl_step e.actor e.deed (gbl_status past)) history
 
-running_step : (a b : Actor) (d : Deed) (old : Option ℕ) → (if same_actor a b then running_after d old else old) ≡ unwrap_or (running_set a b d) old
+pub running_step : (a b : Actor) (d : Deed) (old : Option ℕ) → (if same_actor a b then running_after d old else old) ≡ unwrap_or (running_set a b d) old
 running_step a b (deed.Start j) old = if_wanted (same_actor a b) (Some j) old
 running_step a b (deed.Finish j) old = if_wanted (same_actor a b) None old
 running_step a b _ old = kept_if (same_actor a b) old
@@ -224,7 +224,7 @@ running_step a b _ old = kept_if (same_actor a b) old
 pub running_last : (a : Actor) (history : List Entry) → IsLast (told (running_set a)) None history (running (reverse history) a)
 running_last a history = last_entry (told (running_set a)) (λ past. running past a) (λ past e. running_step a e.actor e.deed (running past a)) history
 
-due_step : (m : MachineData) (a : Actor) (d : Deed) (old : Bool) → due_after m a d old ≡ unwrap_or (due_set m a d) old
+pub due_step : (m : MachineData) (a : Actor) (d : Deed) (old : Bool) → due_after m a d old ≡ unwrap_or (due_set m a d) old
 due_step m actor.Int (deed.Claim n) old = if_wanted (names (own_event m) n) true old
 due_step m actor.Int (deed.Step h) old = refl
 due_step m actor.Int _ old = refl
@@ -237,15 +237,15 @@ due_step m (actor.Firmware k) d old = refl
 pub due_last : (m : MachineData) (history : List Entry) → IsLast (told (due_set m)) false history (due m (reverse history))
 due_last m history = last_entry (told (due_set m)) (due m) (λ past e. due_step m e.actor e.deed (due m past)) history
 
-same_opener : (oo : Option Open) → opener_in (moved oo) ≡ opener_in oo
+pub same_opener : (oo : Option Open) → opener_in (moved oo) ≡ opener_in oo
 same_opener None = refl
 same_opener (Some o) = refl
 
-put_opener : (v : ℕ) (oo : Option Open) → opener_in (put_out v oo) ≡ opener_in oo
+pub put_opener : (v : ℕ) (oo : Option Open) → opener_in (put_out v oo) ≡ opener_in oo
 put_opener v None = refl
 put_opener v (Some o) = refl
 
-opener_step : (a : Actor) (d : Deed) (oo : Option Open) → opener_in (open_after a d oo) ≡ unwrap_or (opener_set a d) (opener_in oo)
+pub opener_step : (a : Actor) (d : Deed) (oo : Option Open) → opener_in (open_after a d oo) ≡ unwrap_or (opener_set a d) (opener_in oo)
 opener_step a (deed.Begin r) oo = refl
 opener_step a (deed.Take v) oo = refl
 opener_step a (deed.Step h) oo = same_opener oo
@@ -258,7 +258,7 @@ opener_step a _ oo = refl
 pub opener_last : (history : List Entry) → IsLast (told opener_set) None history (opener_in (open_of (reverse history)))
 opener_last history = last_entry (told opener_set) (λ past. opener_in (open_of past)) (λ past e. opener_step e.actor e.deed (open_of past)) history
 
-burst_asks : (r : Request) (e : Effect) (old : Bool) → burst_by r (move.Ctl e) old ≡ unwrap_or (burst_open (Some (record { by = actor.Int; asks = r; made = 0; out = None })) e) old
+pub burst_asks : (r : Request) (e : Effect) (old : Bool) → burst_by r (move.Ctl e) old ≡ unwrap_or (burst_open (Some (record { by = actor.Int; asks = r; made = 0; out = None })) e) old
 burst_asks request.Be (effect.Out v) old = refl
 burst_asks request.Be effect.Taken old = refl
 burst_asks request.Be effect.Put old = refl
@@ -271,11 +271,11 @@ burst_asks (request.Rd x) e old = refl
 burst_asks (request.Wr x v) e old = refl
 burst_asks request.Qr e old = refl
 
-burst_opened : (o : Option Open) (e : Effect) (old : Bool) → burst_in o e old ≡ unwrap_or (burst_open o e) old
+pub burst_opened : (o : Option Open) (e : Effect) (old : Bool) → burst_in o e old ≡ unwrap_or (burst_open o e) old
 burst_opened None e old = refl
 burst_opened (Some o) e old = burst_asks o.asks e old
 
-burst_step : (o : Option Open) (d : Deed) (old : Bool) → burst_after o d old ≡ unwrap_or (burst_done o d) old
+pub burst_step : (o : Option Open) (d : Deed) (old : Bool) → burst_after o d old ≡ unwrap_or (burst_done o d) old
 burst_step o (deed.Ctl effect.Calm) old = refl
 burst_step o (deed.Ctl effect.Taken) old = burst_opened o effect.Taken old
 burst_step o (deed.Ctl effect.Put) old = burst_opened o effect.Put old
@@ -287,7 +287,7 @@ burst_last history = last_entry burst_set burst (λ past e. burst_step (open_of 
 
 -- ---- cells
 
-value_step : (c : Cell) (o : Option Access) (old : ℕ) → value_after c o old ≡ unwrap_or (write_to c o) old
+pub value_step : (c : Cell) (o : Option Access) (old : ℕ) → value_after c o old ≡ unwrap_or (write_to c o) old
 value_step c None old = refl
 value_step c (Some a) old = if_wanted (a.writes && same_cell a.cell c) a.byte old
 
@@ -297,7 +297,7 @@ value_last m c history = last_entry (value_set m c) (λ past. value m past c) (�
 -- ---- events
 
 -- a property of a state that each touch leaves, or sets
-slot_state : {X : Type 0} (f : Slot → X) (g : Slot → Option Touch → Option X) → ((s : Slot) → g s None ≡ None) → ((t : Touch) (s : Slot) → f (chip.touched t s) ≡ unwrap_or (g s (Some t)) (f s))
+pub slot_state : {X : Type 0} (f : Slot → X) (g : Slot → Option Touch → Option X) → ((s : Slot) → g s None ≡ None) → ((t : Touch) (s : Slot) → f (chip.touched t s) ≡ unwrap_or (g s (Some t)) (f s))
     → (n : Event) (o : Option Touched) (s : Slot) → f (slot_after n o s) ≡ unwrap_or (g s (done_to n o)) (f s)
 slot_state f g none each n None s = ap (λ o. unwrap_or o (f s)) (sym (none s))
 slot_state f g none each n (Some t) s = at (same_event t.event n)
@@ -306,33 +306,33 @@ slot_state f g none each n (Some t) s = at (same_event t.event n)
     at true = each t.by s
     at false = ap (λ o. unwrap_or o (f s)) (sym (none s))
 
-abbrev line_by : Option Touch → Option Bool
+abbrev pub line_by : Option Touch → Option Bool
 line_by (Some touch.Assert) = Some true
 line_by (Some touch.Drop) = Some false
 line_by _ = None
 
-line_touch : (t : Touch) (s : Slot) → (chip.touched t s).state.line ≡ unwrap_or (line_by (Some t)) s.state.line
+pub line_touch : (t : Touch) (s : Slot) → (chip.touched t s).state.line ≡ unwrap_or (line_by (Some t)) s.state.line
 line_touch touch.Assert s = refl
 line_touch touch.Drop s = refl
 line_touch _ s = refl
 
-line_if : (b c : Bool) (t : Touch) → line_by (Some t) ≡ Some c → line_by (where_true b t) ≡ where_true b c
+pub line_if : (b c : Bool) (t : Touch) → line_by (Some t) ≡ Some c → line_by (where_true b t) ≡ where_true b c
 line_if true c t is = is
 line_if false c t is = refl
 
-line_other : (b : Bool) (t : Touch) → line_by (Some t) ≡ None → line_by (where_true b t) ≡ None
+pub line_other : (b : Bool) (t : Touch) → line_by (Some t) ≡ None → line_by (where_true b t) ≡ None
 line_other true t is = is
 line_other false t is = refl
 
-line_to : (n : Event) (t : Touch) (o : Option Event) → line_by (Some t) ≡ None → line_by (done_to n (does_to t o)) ≡ None
+pub line_to : (n : Event) (t : Touch) (o : Option Event) → line_by (Some t) ≡ None → line_by (done_to n (does_to t o)) ≡ None
 line_to n t None is = refl
 line_to n t (Some x) is = line_other (same_event x n) t is
 
-line_where : (n : Event) (b : Bool) (o : Option Touched) → line_by (done_to n o) ≡ None → line_by (done_to n (if b then o else None)) ≡ None
+pub line_where : (n : Event) (b : Bool) (o : Option Touched) → line_by (done_to n o) ≡ None → line_by (done_to n (if b then o else None)) ≡ None
 line_where n true o is = is
 line_where n false o is = refl
 
-line_done : (m : MachineData) (o : Option Open) (queue : List ℕ) (made : List Job) (n : Event) (a : Actor) (d : Deed) → line_by (done_to n (touch_of m o queue made a d)) ≡ line_set n a d
+pub line_done : (m : MachineData) (o : Option Open) (queue : List ℕ) (made : List Job) (n : Event) (a : Actor) (d : Deed) → line_by (done_to n (touch_of m o queue made a d)) ≡ line_set n a d
 line_done m o queue made n a (deed.Assert x) = line_if (same_event x n) true touch.Assert refl
 line_done m o queue made n a (deed.Drop x) = line_if (same_event x n) false touch.Drop refl
 line_done m o queue made n a (deed.Raise x) = line_other (same_event x n) touch.Raise refl
@@ -347,7 +347,7 @@ line_done m o queue made n a (deed.Push q) = line_to n touch.Raise (own_event m)
 line_done m o queue made n a (deed.Ctl e) = line_where n (is_loud m o queue e) (does_to touch.Raise (own_event m)) (line_to n touch.Raise (own_event m) refl)
 line_done m o queue made n a _ = refl
 
-line_step : (m : MachineData) (n : Event) (past : List Entry) (e : Entry) → line m (e ∷ past) n ≡ unwrap_or (line_set n e.actor e.deed) (line m past n)
+pub line_step : (m : MachineData) (n : Event) (past : List Entry) (e : Entry) → line m (e ∷ past) n ≡ unwrap_or (line_set n e.actor e.deed) (line m past n)
 line_step m n past e =
     slot_state (λ s. s.state.line) (λ s o. line_by o) (λ s. refl) line_touch n (touched m past e) (slot m past n)
     ∙ ap (λ o. unwrap_or o (line m past n)) (line_done m (open_of past) (codes past) (jobs m past) n e.actor e.deed)
@@ -357,7 +357,7 @@ line_last m n history =
     let first : line m [] n ≡ false = ap (λ (s : EventState). s.line) (starts_fresh m n).1 in
     subst (λ b. IsLast (told (line_set n)) b history (line m (reverse history) n)) first (last_entry (told (line_set n)) (λ past. line m past n) (line_step m n) history)
 
-held_touch : (t : Touch) (s : Slot) → (chip.touched t s).state.held ≡ unwrap_or (held_by (is_listed s.kind) (Some t)) s.state.held
+pub held_touch : (t : Touch) (s : Slot) → (chip.touched t s).state.held ≡ unwrap_or (held_by (is_listed s.kind) (Some t)) s.state.held
 held_touch touch.Claim s = refl
 held_touch touch.Finish s = refl
 held_touch _ s = refl
@@ -372,15 +372,15 @@ held_last m n history =
     let first : held m [] n ≡ false = ap (λ (s : EventState). s.held) (starts_fresh m n).1 in
     subst (λ b. IsLast (held_set m n) b history (held m (reverse history) n)) first (last_entry (held_set m n) (λ past. held m past n) (held_step m n) history)
 
-claim_status : (level old on : Bool) → (level && old) ≡ unwrap_or (status_by level on (Some touch.Claim)) old
+pub claim_status : (level old on : Bool) → (level && old) ≡ unwrap_or (status_by level on (Some touch.Claim)) old
 claim_status true old on = refl
 claim_status false old on = refl
 
-finish_status : (level old on : Bool) → (if level then on else old) ≡ unwrap_or (status_by level on (Some touch.Finish)) old
+pub finish_status : (level old on : Bool) → (if level then on else old) ≡ unwrap_or (status_by level on (Some touch.Finish)) old
 finish_status true old on = refl
 finish_status false old on = refl
 
-status_touch : (t : Touch) (s : Slot) → (chip.touched t s).state.status ≡ unwrap_or (status_by (is_level s.kind) s.state.line (Some t)) s.state.status
+pub status_touch : (t : Touch) (s : Slot) → (chip.touched t s).state.status ≡ unwrap_or (status_by (is_level s.kind) s.state.line (Some t)) s.state.status
 status_touch touch.Raise s = refl
 status_touch touch.Assert s = refl
 status_touch touch.Drop s = refl
@@ -401,23 +401,23 @@ status_last m n history =
 
 -- ---- the Global Lock's event
 
-gbl_to : (o : Option Event) → names o gbl ≡ false → (old : Bool) → next_status gbl (does_to touch.Raise o) old ≡ old
+pub gbl_to : (o : Option Event) → names o gbl ≡ false → (old : Bool) → next_status gbl (does_to touch.Raise o) old ≡ old
 gbl_to None free old = refl
 gbl_to (Some x) free old = rw free refl
 
-gbl_where : (b : Bool) (o : Option Touched) (old : Bool) → next_status gbl o old ≡ old → next_status gbl (if b then o else None) old ≡ old
+pub gbl_where : (b : Bool) (o : Option Touched) (old : Bool) → next_status gbl o old ≡ old → next_status gbl (if b then o else None) old ≡ old
 gbl_where true o old is = is
 gbl_where false o old is = refl
 
-gbl_finish : (o : Option Event) (old : Bool) → next_status gbl (does_to touch.Finish o) old ≡ old
+pub gbl_finish : (o : Option Event) (old : Bool) → next_status gbl (does_to touch.Finish o) old ≡ old
 gbl_finish None old = refl
 gbl_finish (Some x) old = kept_if (same_event x gbl) old
 
-gbl_leave : (b old : Bool) → next_status gbl (if b then does touch.Raise gbl else None) old ≡ (if b then true else old)
+pub gbl_leave : (b old : Bool) → next_status gbl (if b then does touch.Raise gbl else None) old ≡ (if b then true else old)
 gbl_leave true old = refl
 gbl_leave false old = refl
 
-gbl_touch : (m : MachineData) (o : Option Open) (queue : List ℕ) (made : List Job) (a : Actor) (d : Deed) (old : Bool) → is_own m gbl ≡ false → next_status gbl (touch_of m o queue made a d) old ≡ gbl_after a d old
+pub gbl_touch : (m : MachineData) (o : Option Open) (queue : List ℕ) (made : List Job) (a : Actor) (d : Deed) (old : Bool) → is_own m gbl ≡ false → next_status gbl (touch_of m o queue made a d) old ≡ gbl_after a d old
 gbl_touch m o queue made a (deed.Raise x) old free = refl
 gbl_touch m o queue made a (deed.Latch x) old free = refl
 gbl_touch m o queue made a (deed.Assert x) old free = refl
@@ -432,7 +432,7 @@ gbl_touch m o queue made a (deed.Push q) old free = gbl_to (own_event m) free ol
 gbl_touch m o queue made a (deed.Ctl e) old free = gbl_where (is_loud m o queue e) (does_to touch.Raise (own_event m)) old (gbl_to (own_event m) free old)
 gbl_touch m o queue made a _ old free = refl
 
-gbl_past : (m : MachineData) → is_own m gbl ≡ false → (past : List Entry) → status m past gbl ≡ gbl_status past
+pub gbl_past : (m : MachineData) → is_own m gbl ≡ false → (past : List Entry) → status m past gbl ≡ gbl_status past
 gbl_past m free [] = ap (λ (s : EventState). s.status) (starts_fresh m gbl).1
 gbl_past m free (e ∷ past) =
     status_next gbl (touched m past e) (slot m past gbl) (ap is_level (slot_kind m past gbl))

@@ -24,13 +24,13 @@ use Rattle.machine_history.proofs.Totals.{Count, bounded, by_deed, one, own, tot
 
 -- ---- who makes what
 
-by_worker : (m : MachineData) (a : Actor) → is_worker m a ≡ true → runs_scripts m a ≡ true
+pub by_worker : (m : MachineData) (a : Actor) → is_worker m a ≡ true → runs_scripts m a ≡ true
 by_worker m a is = or_left (is_worker m a) (is_firmware m a) is
 
 pub by_firmware : (m : MachineData) (a : Actor) → is_firmware m a ≡ true → runs_scripts m a ≡ true
 by_firmware m a is = or_right (is_worker m a) (is_firmware m a) is
 
-episode_by : (m : MachineData) → ByScripts m (by_deed is_episode)
+pub episode_by : (m : MachineData) → ByScripts m (by_deed is_episode)
 episode_by m past e ok = at e.actor e.deed ok
   where
     at : (a : Actor) (d : Deed) → Allowed m past (record { actor = a; deed = d }) → (is_episode d ≡ 0) ⊎ (runs_scripts m a ≡ true)
@@ -40,14 +40,14 @@ episode_by m past e ok = at e.actor e.deed ok
     at a (deed.Leave s) ok = inr (hold m past a (deed.Leave s) ok).0
     at a _ ok = inl refl
 
-leave_by : (m : MachineData) → ByScripts m (by_deed is_left)
+pub leave_by : (m : MachineData) → ByScripts m (by_deed is_left)
 leave_by m past e ok = at e.actor e.deed ok
   where
     at : (a : Actor) (d : Deed) → Allowed m past (record { actor = a; deed = d }) → (is_left d ≡ 0) ⊎ (runs_scripts m a ≡ true)
     at a (deed.Leave s) ok = inr (hold m past a (deed.Leave s) ok).0
     at a _ ok = inl refl
 
-finish_by : (m : MachineData) → ByScripts m (by_deed is_finish)
+pub finish_by : (m : MachineData) → ByScripts m (by_deed is_finish)
 finish_by m past e ok = at e.actor e.deed ok
   where
     at : (a : Actor) (d : Deed) → Allowed m past (record { actor = a; deed = d }) → (is_finish d ≡ 0) ⊎ (runs_scripts m a ≡ true)
@@ -64,17 +64,17 @@ by_actors m c d by each past legal =
     let joined = over_within m d past in
     omega arith
 
-four_seeks : (past : List Entry) → total (by_deed (λ d. 4 * is_seek d + is_woken d)) past ≡ 4 * total (by_deed is_seek) past + total (by_deed is_woken) past
+pub four_seeks : (past : List Entry) → total (by_deed (λ d. 4 * is_seek d + is_woken d)) past ≡ 4 * total (by_deed is_seek) past + total (by_deed is_woken) past
 four_seeks [] = refl
 four_seeks (e ∷ past) = let before = four_seeks past in omega arith
 
-all_episodes : (m : MachineData) (past : List Entry) → LegalPast m past → total (by_deed is_episode) past ≤ 4 * total (by_deed is_seek) past + total (by_deed is_woken) past
+pub all_episodes : (m : MachineData) (past : List Entry) → LegalPast m past → total (by_deed is_episode) past ≤ 4 * total (by_deed is_seek) past + total (by_deed is_woken) past
 all_episodes m past legal =
     let all = by_actors m (by_deed is_episode) (by_deed (λ d. 4 * is_seek d + is_woken d)) (episode_by m) (λ a p lp. (let one = episodes m a p lp in omega arith)) past legal in
     let split = four_seeks past in
     omega arith
 
-all_leaves : (m : MachineData) (past : List Entry) → LegalPast m past → total (by_deed is_left) past ≤ total (by_deed is_seek) past
+pub all_leaves : (m : MachineData) (past : List Entry) → LegalPast m past → total (by_deed is_left) past ≤ total (by_deed is_seek) past
 all_leaves m past legal = by_actors m (by_deed is_left) (by_deed is_seek) (leave_by m) (λ a p lp. (let one = few_leaves m a p lp in omega arith)) past legal
 
 pub all_finishes : (m : MachineData) (past : List Entry) → LegalPast m past → total (by_deed is_finish) past ≤ total (by_deed is_start) past
@@ -82,32 +82,32 @@ all_finishes m past legal = by_actors m (by_deed is_finish) (by_deed is_start) (
 
 -- ---- wokens by side, and what sets the wakes
 
-abbrev woken_on_side : Side → Count
+abbrev pub woken_on_side : Side → Count
 woken_on_side s past e = when (stands_on s e.actor) (is_woken e.deed)
 
 abbrev pub signals_on : Side → Count
 signals_on s past e = signal_of s e.actor e.deed
 
-wake_on : (past : List Entry) (s : Side) (o : Option Side) → woken_on past o ≡ true → is_side s o ≡ true → wake s past ≡ true
+pub wake_on : (past : List Entry) (s : Side) (o : Option Side) → woken_on past o ≡ true → is_side s o ≡ true → wake s past ≡ true
 wake_on past s None woken is = cc
 wake_on past side.Os (Some side.Os) woken is = woken
 wake_on past side.Firmware (Some side.Firmware) woken is = woken
 wake_on past side.Os (Some side.Firmware) woken is = cc
 wake_on past side.Firmware (Some side.Os) woken is = cc
 
-at_wake : (b old : Bool) → (b ≡ true → old ≡ true) → when b 1 + one (if b then false else old) ≤ one old
+pub at_wake : (b old : Bool) → (b ≡ true → old ≡ true) → when b 1 + one (if b then false else old) ≤ one old
 at_wake true old is = rw (is refl) (omega arith)
 at_wake false old is = omega arith
 
-set_wake : (b old : Bool) → one (if b then true else old) ≤ when b 1 + one old
+pub set_wake : (b old : Bool) → one (if b then true else old) ≤ when b 1 + one old
 set_wake true old = omega arith
 set_wake false old = omega arith
 
-none_there : (b : Bool) → when b 0 ≡ 0
+pub none_there : (b : Bool) → when b 0 ≡ 0
 none_there true = refl
 none_there false = refl
 
-os_woken : (m : MachineData) (past : List Entry) (a : Actor) (d : Deed) → Allowed m past (record { actor = a; deed = d }) → when (stands_on side.Os a) (is_woken d) + one (wake_after side.Os a d (wake side.Os past)) ≤ takes m gbl past (record { actor = a; deed = d }) + one (wake side.Os past)
+pub os_woken : (m : MachineData) (past : List Entry) (a : Actor) (d : Deed) → Allowed m past (record { actor = a; deed = d }) → when (stands_on side.Os a) (is_woken d) + one (wake_after side.Os a d (wake side.Os past)) ≤ takes m gbl past (record { actor = a; deed = d }) + one (wake side.Os past)
 os_woken m past a deed.Woken ok =
     let h = hold m past a deed.Woken ok in
     let all = at_wake (stands_on side.Os a) (wake side.Os past) (λ is. wake_on past side.Os (side_of a) h.1.1.1.1.0 is) in
@@ -117,7 +117,7 @@ os_woken m past a (deed.Leave true) ok = let none = none_there (stands_on side.O
 os_woken m past a (deed.Leave false) ok = let none = none_there (stands_on side.Os a) in omega arith
 os_woken m past a _ ok = let none = none_there (stands_on side.Os a) in omega arith
 
-firmware_woken : (m : MachineData) (past : List Entry) (a : Actor) (d : Deed) → Allowed m past (record { actor = a; deed = d }) → when (stands_on side.Firmware a) (is_woken d) + one (wake_after side.Firmware a d (wake side.Firmware past)) ≤ signal_of side.Os a d + one (wake side.Firmware past)
+pub firmware_woken : (m : MachineData) (past : List Entry) (a : Actor) (d : Deed) → Allowed m past (record { actor = a; deed = d }) → when (stands_on side.Firmware a) (is_woken d) + one (wake_after side.Firmware a d (wake side.Firmware past)) ≤ signal_of side.Os a d + one (wake side.Firmware past)
 firmware_woken m past a deed.Woken ok =
     let h = hold m past a deed.Woken ok in
     let all = at_wake (stands_on side.Firmware a) (wake side.Firmware past) (λ is. wake_on past side.Firmware (side_of a) h.1.1.1.1.0 is) in
@@ -127,45 +127,45 @@ firmware_woken m past a (deed.Leave false) ok = let none = none_there (stands_on
 firmware_woken m past a (deed.Claim n) ok = let none = none_there (stands_on side.Firmware a) in omega arith
 firmware_woken m past a _ ok = let none = none_there (stands_on side.Firmware a) in omega arith
 
-all_os_wokens : (m : MachineData) (past : List Entry) → LegalPast m past → total (woken_on_side side.Os) past + one (wake side.Os past) ≤ 0 + total (takes m gbl) past
+pub all_os_wokens : (m : MachineData) (past : List Entry) → LegalPast m past → total (woken_on_side side.Os) past + one (wake side.Os past) ≤ 0 + total (takes m gbl) past
 all_os_wokens m past legal = bounded m (λ p. one (wake side.Os p)) (woken_on_side side.Os) (takes m gbl) 0 (omega arith) (λ p e lp ok. os_woken m p e.actor e.deed ok) past legal
 
-all_firmware_wokens : (m : MachineData) (past : List Entry) → LegalPast m past → total (woken_on_side side.Firmware) past + one (wake side.Firmware past) ≤ 0 + total (signals_on side.Os) past
+pub all_firmware_wokens : (m : MachineData) (past : List Entry) → LegalPast m past → total (woken_on_side side.Firmware) past + one (wake side.Firmware past) ≤ 0 + total (signals_on side.Os) past
 all_firmware_wokens m past legal = bounded m (λ p. one (wake side.Firmware p)) (woken_on_side side.Firmware) (signals_on side.Os) 0 (omega arith) (λ p e lp ok. firmware_woken m p e.actor e.deed ok) past legal
 
-on_a_side : (past : List Entry) (o : Option Side) → woken_on past o ≡ true → 1 ≤ when (is_side side.Os o) 1 + when (is_side side.Firmware o) 1
+pub on_a_side : (past : List Entry) (o : Option Side) → woken_on past o ≡ true → 1 ≤ when (is_side side.Os o) 1 + when (is_side side.Firmware o) 1
 on_a_side past None woken = cc
 on_a_side past (Some side.Os) woken = omega arith
 on_a_side past (Some side.Firmware) woken = omega arith
 
-woken_side : (m : MachineData) (past : List Entry) (a : Actor) (d : Deed) → Allowed m past (record { actor = a; deed = d }) → is_woken d ≤ when (stands_on side.Os a) (is_woken d) + when (stands_on side.Firmware a) (is_woken d)
+pub woken_side : (m : MachineData) (past : List Entry) (a : Actor) (d : Deed) → Allowed m past (record { actor = a; deed = d }) → is_woken d ≤ when (stands_on side.Os a) (is_woken d) + when (stands_on side.Firmware a) (is_woken d)
 woken_side m past a deed.Woken ok = on_a_side past (side_of a) (hold m past a deed.Woken ok).1.1.1.1.0
 woken_side m past a _ ok = omega arith
 
-all_wokens : (m : MachineData) (past : List Entry) → LegalPast m past → total (by_deed is_woken) past ≤ total (woken_on_side side.Os) past + total (woken_on_side side.Firmware) past
+pub all_wokens : (m : MachineData) (past : List Entry) → LegalPast m past → total (by_deed is_woken) past ≤ total (woken_on_side side.Os) past + total (woken_on_side side.Firmware) past
 all_wokens m past legal =
     let each = total-le m (by_deed is_woken) (λ p e. woken_on_side side.Os p e + woken_on_side side.Firmware p e) (λ p e lp ok. woken_side m p e.actor e.deed ok) past legal in
     let split = total-plus (woken_on_side side.Os) (woken_on_side side.Firmware) past in
     omega arith
 
-one_side : (o : Option Side) (x y : ℕ) → x ≤ y → when (is_side side.Os o) x + when (is_side side.Firmware o) x ≤ y
+pub one_side : (o : Option Side) (x y : ℕ) → x ≤ y → when (is_side side.Os o) x + when (is_side side.Firmware o) x ≤ y
 one_side None x y less = omega arith
 one_side (Some side.Os) x y less = omega arith
 one_side (Some side.Firmware) x y less = omega arith
 
-signal_left : (d : Deed) → is_signal d ≤ is_left d
+pub signal_left : (d : Deed) → is_signal d ≤ is_left d
 signal_left (deed.Leave true) = omega arith
 signal_left (deed.Leave false) = omega arith
 signal_left _ = omega arith
 
-all_signals : (past : List Entry) → total (signals_on side.Os) past + total (signals_on side.Firmware) past ≤ total (by_deed is_left) past
+pub all_signals : (past : List Entry) → total (signals_on side.Os) past + total (signals_on side.Firmware) past ≤ total (by_deed is_left) past
 all_signals past =
     let each = total-le_all (λ p e. signals_on side.Os p e + signals_on side.Firmware p e) (by_deed is_left) (λ p e. one_side (side_of e.actor) (is_signal e.deed) (is_left e.deed) (signal_left e.deed)) past in
     let split = total-plus (signals_on side.Os) (signals_on side.Firmware) past in
     omega arith
 
 -- what sets the lock's event: raises, latches, and the firmware's signals
-gbl_sets : (m : MachineData) (past : List Entry) → is_own m gbl ≡ false → total (sets_in m gbl) past ≡ (total (charged (lifts gbl)) past + total (by_deed (latch_in gbl)) past) + total (signals_on side.Firmware) past
+pub gbl_sets : (m : MachineData) (past : List Entry) → is_own m gbl ≡ false → total (sets_in m gbl) past ≡ (total (charged (lifts gbl)) past + total (by_deed (latch_in gbl)) past) + total (signals_on side.Firmware) past
 gbl_sets m [] other = refl
 gbl_sets m (e ∷ past) other = let before = gbl_sets m past other in rw other (omega arith)
 

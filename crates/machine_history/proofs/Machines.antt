@@ -67,17 +67,17 @@ sum-same f g (x ∷ xs) same = let one = same x in let rest = sum-same f g xs sa
 
 -- ---- a faultless script does nothing that is forbidden
 
-abbrev verdict : Bool → Bool → Bool → Bool → ℕ → Option ScriptFault
+abbrev pub verdict : Bool → Bool → Bool → Bool → ℕ → Option ScriptFault
 verdict a k s b i = if a then (if k then (if s then (if b then None else Some (fault.Unbalanced i)) else Some (fault.BadSkip i)) else Some (fault.UnknownField i)) else Some (fault.NotAllowed i)
 
-passes : (a k s b : Bool) (i : ℕ) (later : Option ScriptFault) → first_of (verdict a k s b i) later ≡ None → (a ≡ true) × (later ≡ None)
+pub passes : (a k s b : Bool) (i : ℕ) (later : Option ScriptFault) → first_of (verdict a k s b i) later ≡ None → (a ≡ true) × (later ≡ None)
 passes true true true true i later e = (refl, e)
 passes true true true false i later e = cc
 passes true true false b i later e = cc
 passes true false s b i later e = cc
 passes false k s b i later e = cc
 
-ops_less : (f g : Op → ℕ) (forbidden : Op → Bool) (of_side : Side) (count : ℕ) → ((o : Op) → forbidden o ≡ false → f o ≤ g o) → (hold : Option ℕ) (i : ℕ) (ops : List Op) → faults_from forbidden of_side count hold i ops ≡ None → sum_of f ops ≤ sum_of g ops
+pub ops_less : (f g : Op → ℕ) (forbidden : Op → Bool) (of_side : Side) (count : ℕ) → ((o : Op) → forbidden o ≡ false → f o ≤ g o) → (hold : Option ℕ) (i : ℕ) (ops : List Op) → faults_from forbidden of_side count hold i ops ≡ None → sum_of f ops ≤ sum_of g ops
 ops_less f g forbidden of_side count less hold i [] none = omega arith
 ops_less f g forbidden of_side count less hold i (o ∷ ops) none =
     let p = passes (is_allowed of_side o && not (forbidden o)) (is_named count o) (is_sound_skip o ops) (is_balanced (is_some hold) o) i (faults_from forbidden of_side count (open_after i o hold) (i + 1) ops) none in
@@ -86,7 +86,7 @@ ops_less f g forbidden of_side count less hold i (o ∷ ops) none =
     omega arith
 
 -- a count over a script, where it holds of each operation that is not forbidden
-script_less : (m : MachineData) (f g : Op → ℕ) → ((o : Op) → forbids (listed_in m) (own_event m) o ≡ false → f o ≤ g o) → (of_side : Side) (ops : List Op) → IsHandler m of_side ops → sum_of f ops ≤ sum_of g ops
+pub script_less : (m : MachineData) (f g : Op → ℕ) → ((o : Op) → forbids (listed_in m) (own_event m) o ≡ false → f o ≤ g o) → (of_side : Side) (ops : List Op) → IsHandler m of_side ops → sum_of f ops ≤ sum_of g ops
 unfolding script_fault
 script_less m f g less of_side ops handler = ops_less f g (forbids (listed_in m) (own_event m)) of_side (length m.fields) less None 0 ops handler.faultless
 
@@ -100,21 +100,21 @@ pub in_firmware-is : (what : Tally) (firmware : List (List Op)) → in_firmware 
 unfolding in_firmware
 in_firmware-is what firmware = sums-same (in_script what) firmware
 
-in_devices-is : (n : Event) (devices : List (List Event)) → in_devices n devices ≡ sum_of (λ pulses. count_by (same_event n) pulses) devices
+pub in_devices-is : (n : Event) (devices : List (List Event)) → in_devices n devices ≡ sum_of (λ pulses. count_by (same_event n) pulses) devices
 unfolding in_devices
 in_devices-is n devices = sums-same (count_by (same_event n)) devices
 
-counted-is : (n : Event) (pulses : List Event) → count_by (same_event n) pulses ≡ sum_of (λ x. one (same_event n x)) pulses
+pub counted-is : (n : Event) (pulses : List Event) → count_by (same_event n) pulses ≡ sum_of (λ x. one (same_event n x)) pulses
 counted-is n pulses = sums-same (λ x. cond (same_event n x) 1 0) pulses
 
-times-is : (n : Event) (pulses : List Event) → times n pulses ≡ sum_of (λ x. one (same_event n x)) pulses
+pub times-is : (n : Event) (pulses : List Event) → times n pulses ≡ sum_of (λ x. one (same_event n x)) pulses
 times-is n [] = refl
 times-is n (x ∷ pulses) = let rest = times-is n pulses in let swap : one (same_event x n) ≡ one (same_event n x) = ap one (same_event-swap x n) in omega arith
 
 pub pulses-is : (m : MachineData) (n : Event) → pulses_of m n ≡ in_devices n m.devices
 pulses-is m n = sums-same (times n) m.devices ∙ (sum-same (times n) (λ pulses. count_by (same_event n) pulses) m.devices (λ pulses. times-is n pulses ∙ sym (counted-is n pulses)) ∙ sym (in_devices-is n m.devices))
 
-firmware_less : (m : MachineData) → IsMachine m → (what that : Tally) → ((o : Op) → forbids (listed_in m) (own_event m) o ≡ false → counted what o ≤ counted that o) → in_firmware what m.firmware ≤ in_firmware that m.firmware
+pub firmware_less : (m : MachineData) → IsMachine m → (what that : Tally) → ((o : Op) → forbids (listed_in m) (own_event m) o ≡ false → counted what o ≤ counted that o) → in_firmware what m.firmware ≤ in_firmware that m.firmware
 firmware_less m ok what that less =
     let left = in_firmware-is what m.firmware in
     let right = in_firmware-is that m.firmware in
@@ -122,7 +122,7 @@ firmware_less m ok what that less =
     (λ ops handler. (let one = script_less m (counted what) (counted that) less side.Firmware ops handler in let l = in_script-is what ops in let r = in_script-is that ops in omega arith)) in
     omega arith
 
-firmware_none : (m : MachineData) → IsMachine m → (what : Tally) → ((o : Op) → forbids (listed_in m) (own_event m) o ≡ false → counted what o ≤ 0) → in_firmware what m.firmware ≡ 0
+pub firmware_none : (m : MachineData) → IsMachine m → (what : Tally) → ((o : Op) → forbids (listed_in m) (own_event m) o ≡ false → counted what o ≤ 0) → in_firmware what m.firmware ≡ 0
 firmware_none m ok what less =
     let left = in_firmware-is what m.firmware in
     let none = sum-zero m.firmware in
@@ -133,10 +133,10 @@ firmware_none m ok what less =
 -- ---- events that scripts name
 
 -- where one event is not the other
-apart : (n x : Event) → (n ≡ x → ⊥) → one_if (same_event n x) ≡ 0
+pub apart : (n x : Event) → (n ≡ x → ⊥) → one_if (same_event n x) ≡ 0
 apart n x other = ap one_if (false_from_ne_true (same_event n x) (λ same. other (same_event-true n x same)))
 
-level_is_listed : (items : List Listed) (n : Event) → is_level items n ≡ true → is_listed items n ≡ true
+pub level_is_listed : (items : List Listed) (n : Event) → is_level items n ≡ true → is_listed items n ≡ true
 level_is_listed [] n is = cc
 level_is_listed (l ∷ items) n is = at (same_event l.event n) l.level (level_is_listed items n) is
   where
@@ -144,26 +144,26 @@ level_is_listed (l ∷ items) n is = at (same_event l.event n) l.level (level_is
     at true v rest is = refl
     at false v rest is = rest is
 
-raise_known : (listed : List Listed) (own : Option Event) (x : Event) → forbids listed own (op.Raise x) ≡ false → is_known listed own x ≡ true
+pub raise_known : (listed : List Listed) (own : Option Event) (x : Event) → forbids listed own (op.Raise x) ≡ false → is_known listed own x ≡ true
 unfolding forbids
 raise_known listed own x may = not-false (is_known listed own x) may
 
-assert_listed : (listed : List Listed) (own : Option Event) (x : Event) → forbids listed own (op.Assert x) ≡ false → is_listed listed x ≡ true
+pub assert_listed : (listed : List Listed) (own : Option Event) (x : Event) → forbids listed own (op.Assert x) ≡ false → is_listed listed x ≡ true
 unfolding forbids
 assert_listed listed own x may = level_is_listed listed x (not-false (is_level listed x) may)
 
-listed_known : (listed : List Listed) (own : Option Event) (x : Event) → is_listed listed x ≡ true → is_known listed own x ≡ true
+pub listed_known : (listed : List Listed) (own : Option Event) (x : Event) → is_listed listed x ≡ true → is_known listed own x ≡ true
 listed_known listed own x is = or_right (is_gbl x || is_event_of x own) (is_listed listed x) is
 
-differ : (test : Event → Bool) (n x : Event) → test n ≡ false → test x ≡ true → n ≡ x → ⊥
+pub differ : (test : Event → Bool) (n x : Event) → test n ≡ false → test x ≡ true → n ≡ x → ⊥
 differ test n x no_n is_x same = let both = ap test same in cc
 
-unknown_op : (listed : List Listed) (own : Option Event) (n : Event) → is_known listed own n ≡ false → (o : Op) → forbids listed own o ≡ false → counted (tally.Runs n) o ≤ 0
+pub unknown_op : (listed : List Listed) (own : Option Event) (n : Event) → is_known listed own n ≡ false → (o : Op) → forbids listed own o ≡ false → counted (tally.Runs n) o ≤ 0
 unknown_op listed own n unknown (op.Raise x) may = let none = apart n x (differ (is_known listed own) n x unknown (raise_known listed own x may)) in omega arith
 unknown_op listed own n unknown (op.Assert x) may = let none = apart n x (differ (is_known listed own) n x unknown (listed_known listed own x (assert_listed listed own x may))) in omega arith
 unknown_op listed own n unknown _ may = omega arith
 
-unlisted_op : (listed : List Listed) (own : Option Event) (n : Event) → is_listed listed n ≡ false → (o : Op) → forbids listed own o ≡ false → counted (tally.Runs n) o ≤ counted (tally.Raises n) o
+pub unlisted_op : (listed : List Listed) (own : Option Event) (n : Event) → is_listed listed n ≡ false → (o : Op) → forbids listed own o ≡ false → counted (tally.Runs n) o ≤ counted (tally.Raises n) o
 unlisted_op listed own n unlisted (op.Raise x) may = omega arith
 unlisted_op listed own n unlisted (op.Assert x) may = let none = apart n x (differ (is_listed listed) n x unlisted (assert_listed listed own x may)) in omega arith
 unlisted_op listed own n unlisted _ may = omega arith
@@ -172,7 +172,7 @@ unlisted_op listed own n unlisted _ may = omega arith
 pub unlisted_runs : (m : MachineData) (n : Event) → IsMachine m → is_listed (listed_in m) n ≡ false → runs_of m n ≤ calls_of m n
 unlisted_runs m n ok unlisted = let less = firmware_less m ok (tally.Runs n) (tally.Raises n) (unlisted_op (listed_in m) (own_event m) n unlisted) in omega arith
 
-unknown_pulses : (m : MachineData) (n : Event) → is_known (listed_in m) (own_event m) n ≡ false → (pulses : List Event) → IsDevice m pulses → count_by (same_event n) pulses ≡ 0
+pub unknown_pulses : (m : MachineData) (n : Event) → is_known (listed_in m) (own_event m) n ≡ false → (pulses : List Event) → IsDevice m pulses → count_by (same_event n) pulses ≡ 0
 unknown_pulses m n unknown pulses device =
     let is = counted-is n pulses in
     let zero_sum = sum-zero pulses in
@@ -191,11 +191,11 @@ unknown_runs m n ok unknown =
 
 -- ---- the controller's event and the lock's
 
-in_block_gbl : (m : MachineData) (n : Event) → is_in_block (blocks_in m) n ≡ true → same_event gbl n ≡ false
+pub in_block_gbl : (m : MachineData) (n : Event) → is_in_block (blocks_in m) n ≡ true → same_event gbl n ≡ false
 in_block_gbl m (event.Fixed f) is = cc
 in_block_gbl m (event.Gpe k) is = refl
 
-always_kind : (b c : Bool) (l : Option Listed) → c ≡ true → (if b || c then always else slot_or l no_slot).kind ≡ kind.Always
+pub always_kind : (b c : Bool) (l : Option Listed) → c ≡ true → (if b || c then always else slot_or l no_slot).kind ≡ kind.Always
 always_kind true c l is = refl
 always_kind false c l is = rw is refl
 
@@ -222,7 +222,7 @@ own_not_gbl m ok = at (own_event m) ok.own
 pub listed_each : (m : MachineData) → IsMachine m → Each (IsListed m) m.events
 listed_each m ok = each_all (IsListed m) m.events ok.events
 
-none_listed : (m : MachineData) (n : Event) (ls : List ListedEvent) → Each (IsListed m) ls → ((l : ListedEvent) → IsListed m l → same_event l.listed.event n ≡ false) → list_any (λ l. same_event l.listed.event n) ls ≡ false
+pub none_listed : (m : MachineData) (n : Event) (ls : List ListedEvent) → Each (IsListed m) ls → ((l : ListedEvent) → IsListed m l → same_event l.listed.event n ≡ false) → list_any (λ l. same_event l.listed.event n) ls ≡ false
 none_listed m n [] each other = refl
 none_listed m n (l ∷ ls) each other = rw (other l (each zero l refl)) (none_listed m n ls (λ k x at. each (suc k) x at) other)
 
@@ -242,7 +242,7 @@ listed_own m l kept = at (own_event m) kept.own
     at None own = refl
     at (Some n) own = own
 
-listing-any : (items : List Listed) (n : Event) → state.is_listed (slot_or (listing items n) no_slot).kind ≡ is_listed items n
+pub listing-any : (items : List Listed) (n : Event) → state.is_listed (slot_or (listing items n) no_slot).kind ≡ is_listed items n
 listing-any [] n = refl
 listing-any (l ∷ items) n = at (same_event l.event n) (listing-any items n)
   where
@@ -254,7 +254,7 @@ listing-any (l ∷ items) n = at (same_event l.event n) (listing-any items n)
     at true rest = listed_kind l.level
     at false rest = rest
 
-abbrev kind_at : Bool → Option Listed → Bool
+abbrev pub kind_at : Bool → Option Listed → Bool
 kind_at b l = state.is_listed (if b then always else slot_or l no_slot).kind
 
 -- an event that the machine lists stands in its list
@@ -293,10 +293,10 @@ pub record Covers (m : MachineData) (f : Act → ℕ) (c : List Op → ℕ) : Ty
   pub within : (ops : List Op) → ops_cost f m.fields false ops ≤ c ops
   pub empty : c [] ≡ 0
 
-script_costs : (m : MachineData) (f : Act → ℕ) (c : List Op → ℕ) → Covers m f c → (ops : List Op) → Accepted m.fields ops → Costs f (plan m.fields ops) (c ops)
+pub script_costs : (m : MachineData) (f : Act → ℕ) (c : List Op → ℕ) → Covers m f c → (ops : List Op) → Accepted m.fields ops → Costs f (plan m.fields ops) (c ops)
 script_costs m f c covers ops accepted = more f (plan m.fields ops) (ops_cost f m.fields false ops) (c ops) (covers.within ops) (costs f m.fields ops covers.uniform accepted)
 
-event_costs : (m : MachineData) (f : Act → ℕ) (c : List Op → ℕ) → Covers m f c → (n : Event) (ls : List ListedEvent) → Each (IsListed m) ls → Costs f (plan m.fields (script_in ls n)) (c (script_in ls n))
+pub event_costs : (m : MachineData) (f : Act → ℕ) (c : List Op → ℕ) → Covers m f c → (n : Event) (ls : List ListedEvent) → Each (IsListed m) ls → Costs f (plan m.fields (script_in ls n)) (c (script_in ls n))
 event_costs m f c covers n [] each = tt
 event_costs m f c covers n (l ∷ ls) each = at (same_event l.listed.event n) (event_costs m f c covers n ls (λ k x at. each (suc k) x at))
   where
@@ -304,7 +304,7 @@ event_costs m f c covers n (l ∷ ls) each = at (same_event l.listed.event n) (e
     at true rest = script_costs m f c covers l.script (each zero l refl).script.accepted
     at false rest = rest
 
-query_costs : (m : MachineData) (f : Act → ℕ) (c : List Op → ℕ) → Covers m f c → (q : ℕ) (queries : List Query) → Each (IsQuery m) queries → Costs f (plan m.fields (query_in queries q)) (c (query_in queries q))
+pub query_costs : (m : MachineData) (f : Act → ℕ) (c : List Op → ℕ) → Covers m f c → (q : ℕ) (queries : List Query) → Each (IsQuery m) queries → Costs f (plan m.fields (query_in queries q)) (c (query_in queries q))
 query_costs m f c covers q [] each = tt
 query_costs m f c covers q (h ∷ queries) each = at (nat_eq h.code q) (query_costs m f c covers q queries (λ k x at. each (suc k) x at))
   where
@@ -334,7 +334,7 @@ abbrev pub first_worth : (List Op → ℕ) → MachineData → Actor → ℕ
 first_worth c m (actor.Firmware k) = c (script_of m k)
 first_worth c m _ = 0
 
-found_costs : (m : MachineData) (f : Act → ℕ) (c : List Op → ℕ) → Covers m f c → (found : Option (List Op)) → ((ops : List Op) → found ≡ Some ops → IsHandler m side.Firmware ops) → Costs f (plan m.fields (unwrap_or found [])) (c (unwrap_or found []))
+pub found_costs : (m : MachineData) (f : Act → ℕ) (c : List Op → ℕ) → Covers m f c → (found : Option (List Op)) → ((ops : List Op) → found ≡ Some ops → IsHandler m side.Firmware ops) → Costs f (plan m.fields (unwrap_or found [])) (c (unwrap_or found []))
 found_costs m f c covers None each = tt
 found_costs m f c covers (Some ops) each = script_costs m f c covers ops (each ops refl).accepted
 
@@ -348,7 +348,7 @@ firsts_cost m f c ok covers (actor.Firmware k) = found_costs m f c covers (slice
 
 -- ---- sums over the firmware
 
-shift : (g : ℕ → ℕ) (n : ℕ) → upto g (suc n) ≡ g 0 + upto (λ k. g (suc k)) n
+pub shift : (g : ℕ → ℕ) (n : ℕ) → upto g (suc n) ≡ g 0 + upto (λ k. g (suc k)) n
 shift g zero = refl
 shift g (suc n) = let rest = shift g n in omega arith
 

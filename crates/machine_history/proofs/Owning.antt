@@ -51,30 +51,30 @@ use Rattle.machine_history.proofs.Stages.{Away, Busied, Disowned, Follows, Owned
 
 -- ---- plans and the lock
 
-pass : (p : Plan) (x : Act) (held : Bool) (byte : ℕ) → next_act p ≡ Some x → Locked held p → Locked (held_by x held) (plan_after byte p)
+pub pass : (p : Plan) (x : Act) (held : Bool) (byte : ℕ) → next_act p ≡ Some x → Locked held p → Locked (held_by x held) (plan_after byte p)
 pass End x held byte next all = cc
 pass (Do needs a rest) x held byte next all = subst (λ y. Locked (held_by y held) (rest byte)) (some-injective a x next) (all.2 byte)
 
-ended : (p : Plan) (held : Bool) → next_act p ≡ None → Locked held p → held ≡ false
+pub ended : (p : Plan) (held : Bool) → next_act p ≡ None → Locked held p → held ≡ false
 ended End held none all = all
 ended (Do needs a rest) held none all = cc
 
-needs_held : (p : Plan) (held : Bool) → Locked held p → needs_lock p ≡ true → held ≡ true
+pub needs_held : (p : Plan) (held : Bool) → Locked held p → needs_lock p ≡ true → held ≡ true
 needs_held End held all needs = cc
 needs_held (Do true a rest) held all needs = all.0
 needs_held (Do false a rest) held all needs = cc
 
 -- ---- the plans of a machine
 
-handler_locked : (m : MachineData) (found : Option (List Op)) → ((ops : List Op) → found ≡ Some ops → IsHandler m side.Firmware ops) → Locked false (plan m.fields (unwrap_or found []))
+pub handler_locked : (m : MachineData) (found : Option (List Op)) → ((ops : List Op) → found ≡ Some ops → IsHandler m side.Firmware ops) → Locked false (plan m.fields (unwrap_or found []))
 handler_locked m None each = refl
 handler_locked m (Some ops) each = locked m.fields ops (each ops refl).accepted
 
-first_locked : (m : MachineData) → IsMachine m → (a : Actor) → Locked false (first_plan m a)
+pub first_locked : (m : MachineData) → IsMachine m → (a : Actor) → Locked false (first_plan m a)
 first_locked m ok (actor.Firmware k) = handler_locked m (slice_get m.firmware k) (λ ops is. each_all (IsHandler m side.Firmware) m.firmware ok.firmware k ops is)
 first_locked m ok _ = refl
 
-event_locked : (m : MachineData) (n : Event) (ls : List ListedEvent) → Each (IsListed m) ls → Locked false (plan m.fields (script_in ls n))
+pub event_locked : (m : MachineData) (n : Event) (ls : List ListedEvent) → Each (IsListed m) ls → Locked false (plan m.fields (script_in ls n))
 event_locked m n [] each = refl
 event_locked m n (l ∷ ls) each = at (same_event l.listed.event n) (event_locked m n ls (λ k x at. each (suc k) x at))
   where
@@ -82,7 +82,7 @@ event_locked m n (l ∷ ls) each = at (same_event l.listed.event n) (event_locke
     at true rest = locked m.fields l.script (each zero l refl).script.accepted
     at false rest = rest
 
-code_locked : (m : MachineData) (q : ℕ) (queries : List Query) → Each (IsQuery m) queries → Locked false (plan m.fields (query_in queries q))
+pub code_locked : (m : MachineData) (q : ℕ) (queries : List Query) → Each (IsQuery m) queries → Locked false (plan m.fields (query_in queries q))
 code_locked m q [] each = refl
 code_locked m q (h ∷ queries) each = at (nat_eq h.code q) (code_locked m q queries (λ k x at. each (suc k) x at))
   where
@@ -90,7 +90,7 @@ code_locked m q (h ∷ queries) each = at (nat_eq h.code q) (code_locked m q que
     at true rest = locked m.fields h.script (each zero h refl).script.accepted
     at false rest = rest
 
-job_locked : (m : MachineData) → IsMachine m → (j : Option Job) → Locked false (job_plan m j)
+pub job_locked : (m : MachineData) → IsMachine m → (j : Option Job) → Locked false (job_plan m j)
 job_locked m ok None = refl
 job_locked m ok (Some (job.Event n)) = event_locked m n m.events (each_all (IsListed m) m.events ok.events)
 job_locked m ok (Some job.Query) = (refl, refl, λ b. (refl, refl, λ b. (refl, refl, λ b. refl)))
@@ -98,13 +98,13 @@ job_locked m ok (Some (job.Code q)) = code_locked m q (queries_in m) (each_all (
 
 -- ---- the plan that is left stands at the actor's stage
 
-abbrev Guarded : Stage → Plan → Type 0
+abbrev pub Guarded : Stage → Plan → Type 0
 Guarded st p = Locked (is_owned st) p
 
-at_stage : (st s : Stage) (p : Plan) (b : Bool) → st ≡ s → is_owned s ≡ b → Guarded st p → Locked b p
+pub at_stage : (st s : Stage) (p : Plan) (b : Bool) → st ≡ s → is_owned s ≡ b → Guarded st p → Locked b p
 at_stage st s p b is same guarded = subst (λ x. Locked x p) (ap is_owned is ∙ same) guarded
 
-no_lock : (x : Act) (held : Bool) → (x ≡ act.Lock → ⊥) → (x ≡ act.Unlock → ⊥) → held_by x held ≡ held
+pub no_lock : (x : Act) (held : Bool) → (x ≡ act.Lock → ⊥) → (x ≡ act.Unlock → ⊥) → held_by x held ≡ held
 no_lock act.Lock held lock unlock = absurd (lock refl)
 no_lock act.Unlock held lock unlock = absurd (unlock refl)
 no_lock (act.Read c) held lock unlock = refl
@@ -119,25 +119,25 @@ no_lock (act.Assert n) held lock unlock = refl
 no_lock (act.Push q) held lock unlock = refl
 
 -- a deed that passes an act other than the lock's
-abbrev passes_other : Deed → Bool
+abbrev pub passes_other : Deed → Bool
 passes_other deed.Disown = false
 passes_other d = is_plain d
 
-other_plain : (d : Deed) → passes_other d ≡ true → is_plain d ≡ true
+pub other_plain : (d : Deed) → passes_other d ≡ true → is_plain d ≡ true
 other_plain deed.Disown other = cc
 other_plain d other = other
 
-unlock_other : (d : Deed) → passes_other d ≡ true → asked act.Unlock d ≡ true → ⊥
+pub unlock_other : (d : Deed) → passes_other d ≡ true → asked act.Unlock d ≡ true → ⊥
 unlock_other deed.Disown other is = cc
 unlock_other _ other is = cc
 
-plain_guarded : (m : MachineData) (past : List Entry) (a : Actor) (d : Deed) (byte : ℕ) → passes_other d ≡ true → is_next m past a d ≡ true → Guarded (stage a past) (plan_left m past a) → Guarded (stage a past) (plan_after byte (plan_left m past a))
+pub plain_guarded : (m : MachineData) (past : List Entry) (a : Actor) (d : Deed) (byte : ℕ) → passes_other d ≡ true → is_next m past a d ≡ true → Guarded (stage a past) (plan_left m past a) → Guarded (stage a past) (plan_after byte (plan_left m past a))
 plain_guarded m past a d byte other is guarded =
     let next = some_asked (next_of m past a) d is in
     let same = no_lock next.0 (is_owned (stage a past)) (λ lock. lock_plain d (other_plain d other) (ap (λ y. asked y d) (sym lock) ∙ next.2)) (λ unlock. unlock_other d other (ap (λ y. asked y d) (sym unlock) ∙ next.2)) in
     subst (λ b. Locked b (plan_after byte (plan_left m past a))) same (pass (plan_left m past a) next.0 (is_owned (stage a past)) byte next.1 guarded)
 
-own_guarded : (m : MachineData) → IsMachine m → (past : List Entry) (a : Actor) (d : Deed) → Allowed m past (entry a d) → Follows d (stage a past) → Kept m past a → Guarded (stage a past) (plan_left m past a) → Guarded (stage_after d (stage a past)) (left_after m (jobs m past) d (plan_left m past a))
+pub own_guarded : (m : MachineData) → IsMachine m → (past : List Entry) (a : Actor) (d : Deed) → Allowed m past (entry a d) → Follows d (stage a past) → Kept m past a → Guarded (stage a past) (plan_left m past a) → Guarded (stage_after d (stage a past)) (left_after m (jobs m past) d (plan_left m past a))
 own_guarded m ok past a deed.Seek allowed f k guarded = at_stage (stage a past) Away (plan_left m past a) false f refl guarded
 own_guarded m ok past a deed.Busy allowed f k guarded = at_stage (stage a past) Sought (plan_left m past a) false f refl guarded
 own_guarded m ok past a deed.Woken allowed f k guarded = at_stage (stage a past) Busied (plan_left m past a) false f refl guarded
@@ -170,7 +170,7 @@ own_guarded m ok past a (deed.Up n) allowed f k guarded = plain_guarded m past a
 own_guarded m ok past a (deed.Down n) allowed f k guarded = plain_guarded m past a (deed.Down n) 0 refl (hold m past a (deed.Down n) allowed).1.1.0 guarded
 own_guarded m ok past a _ allowed f k guarded = guarded
 
-guarded : (m : MachineData) → IsMachine m → (a : Actor) (past : List Entry) → LegalPast m past → Guarded (stage a past) (plan_left m past a)
+pub guarded : (m : MachineData) → IsMachine m → (a : Actor) (past : List Entry) → LegalPast m past → Guarded (stage a past) (plan_left m past a)
 guarded m ok a [] legal = first_locked m ok a
 guarded m ok a (e ∷ past) legal = at (same_actor a e.actor) refl (guarded m ok a past legal.1)
   where
@@ -184,52 +184,52 @@ guarded m ok a (e ∷ past) legal = at (same_actor a e.actor) refl (guarded m ok
     at true same before = let is = same_actor-true a e.actor same in mine e.actor e.deed is legal.0 (follows_own m past a e is legal.1 legal.0) before
     at false other before = beside e.deed e.actor other before
 
-someone_is : (a : Actor) (o : Option Actor) → is_someone a o ≡ true → o ≡ Some a
+pub someone_is : (a : Actor) (o : Option Actor) → is_someone a o ≡ true → o ≡ Some a
 someone_is a None is = cc
 someone_is a (Some b) is = ap Some (sym (same_actor-true a b is))
 
 -- where the next act needs the lock, its actor owns it
-owned_where_needed : (m : MachineData) → IsMachine m → (past : List Entry) (a : Actor) → LegalPast m past → needs_lock (plan_left m past a) ≡ true → owner past ≡ Some a
+pub owned_where_needed : (m : MachineData) → IsMachine m → (past : List Entry) (a : Actor) → LegalPast m past → needs_lock (plan_left m past a) ≡ true → owner past ≡ Some a
 owned_where_needed m ok past a legal needs =
     let owned = needs_held (plan_left m past a) (is_owned (stage a past)) (guarded m ok a past legal) needs in
     someone_is a (owner past) ((staged m past a legal).1 ∙ owned)
 
 -- ---- accesses
 
-next_read : (x : Option Act) (c : Cell) (v : ℕ) → asked_by x (deed.Read c v) ≡ true → x ≡ Some (act.Read c)
+pub next_read : (x : Option Act) (c : Cell) (v : ℕ) → asked_by x (deed.Read c v) ≡ true → x ≡ Some (act.Read c)
 next_read (Some (act.Read d)) c v is = ap (λ y. Some (act.Read y)) (same_cell-true d c is)
 next_read _ c v is = cc
 
-next_write : (x : Option Act) (c : Cell) (v : ℕ) → asked_by x (deed.Write c v) ≡ true → x ≡ Some (act.Write c v)
+pub next_write : (x : Option Act) (c : Cell) (v : ℕ) → asked_by x (deed.Write c v) ≡ true → x ≡ Some (act.Write c v)
 next_write (Some (act.Write d w)) c v is = let p = and_parts (same_cell d c) (w == v) is in ap (λ y. Some (act.Write y w)) (same_cell-true d c p.0) ∙ ap (λ y. Some (act.Write c y)) (eqb-true w v p.1)
 next_write _ c v is = cc
 
-abbrev Makes : MachineData → List Entry → Option Access → Type 0
+abbrev pub Makes : MachineData → List Entry → Option Access → Type 0
 Makes m past None = Unit {0}
 Makes m past (Some x) = made_by m (next_of m past x.by) x ≡ true
 
-makes_from : (m : MachineData) (past : List Entry) (o : Option Access) (x : Access) → o ≡ Some x → Makes m past o → made_by m (next_of m past x.by) x ≡ true
+pub makes_from : (m : MachineData) (past : List Entry) (o : Option Access) (x : Access) → o ≡ Some x → Makes m past o → made_by m (next_of m past x.by) x ≡ true
 makes_from m past o x is makes = subst (Makes m past) is makes
 
 -- the open request is the next act of its requester
-open_next : (m : MachineData) (past : List Entry) (o : Open) → LegalPast m past → open_of past ≡ Some o → next_of m past o.by ≡ Some (act.Ask o.asks)
+pub open_next : (m : MachineData) (past : List Entry) (o : Open) → LegalPast m past → open_of past ≡ Some o → next_of m past o.by ≡ Some (act.Ask o.asks)
 open_next m past o legal is = subst (AsksAt o.by (next_of m past o.by)) is (kept m past o.by legal).1 (same_self o.by)
 
-taken_none : (m : MachineData) (by : Actor) (r : Request) → ctl_access m by r effect.Taken ≡ None
+pub taken_none : (m : MachineData) (by : Actor) (r : Request) → ctl_access m by r effect.Taken ≡ None
 taken_none m by (request.Rd x) = refl
 taken_none m by (request.Wr x w) = refl
 taken_none m by request.Be = refl
 taken_none m by request.Bd = refl
 taken_none m by request.Qr = refl
 
-calm_none : (m : MachineData) (by : Actor) (r : Request) → ctl_access m by r effect.Calm ≡ None
+pub calm_none : (m : MachineData) (by : Actor) (r : Request) → ctl_access m by r effect.Calm ≡ None
 calm_none m by (request.Rd x) = refl
 calm_none m by (request.Wr x w) = refl
 calm_none m by request.Be = refl
 calm_none m by request.Bd = refl
 calm_none m by request.Qr = refl
 
-ctl_makes : (m : MachineData) (past : List Entry) (e : Effect) (by : Actor) (r : Request) → next_of m past by ≡ Some (act.Ask r) → Makes m past (ctl_access m by r e)
+pub ctl_makes : (m : MachineData) (past : List Entry) (e : Effect) (by : Actor) (r : Request) → next_of m past by ≡ Some (act.Ask r) → Makes m past (ctl_access m by r e)
 ctl_makes m past (effect.Out v) by (request.Rd x) next = ap (λ o. made_by m o (record { by = by; cell = space m x; byte = v; writes = false })) next ∙ same_cell-self (space m x)
 ctl_makes m past effect.Put by (request.Wr x w) next =
     ap (λ o. made_by m o (record { by = by; cell = space m x; byte = w; writes = true })) next ∙ and_from (same_cell (space m x) (space m x)) (w == w) (same_cell-self (space m x)) (eq-eqb w w refl)
@@ -244,11 +244,11 @@ ctl_makes m past (effect.Out v) by request.Be next = tt
 ctl_makes m past (effect.Out v) by request.Bd next = tt
 ctl_makes m past (effect.Out v) by request.Qr next = tt
 
-open_makes : (m : MachineData) (past : List Entry) (e : Effect) (oo : Option Open) → ((o : Open) → oo ≡ Some o → next_of m past o.by ≡ Some (act.Ask o.asks)) → Makes m past (open_access m oo e)
+pub open_makes : (m : MachineData) (past : List Entry) (e : Effect) (oo : Option Open) → ((o : Open) → oo ≡ Some o → next_of m past o.by ≡ Some (act.Ask o.asks)) → Makes m past (open_access m oo e)
 open_makes m past e None next = tt
 open_makes m past e (Some o) next = ctl_makes m past e o.by o.asks (next o refl)
 
-makes_its : (m : MachineData) (past : List Entry) (a : Actor) (d : Deed) → LegalPast m past → Allowed m past (entry a d) → Makes m past (access_of m past (entry a d))
+pub makes_its : (m : MachineData) (past : List Entry) (a : Actor) (d : Deed) → LegalPast m past → Allowed m past (entry a d) → Makes m past (access_of m past (entry a d))
 makes_its m past a (deed.Read c v) legal ok = ap (λ o. made_by m o (record { by = a; cell = c; byte = v; writes = false })) (next_read (next_of m past a) c v (hold m past a (deed.Read c v) ok).1.1.0) ∙ same_cell-self c
 makes_its m past a (deed.Write c v) legal ok =
     ap (λ o. made_by m o (record { by = a; cell = c; byte = v; writes = true })) (next_write (next_of m past a) c v (hold m past a (deed.Write c v) ok).1.1.0) ∙ and_from (same_cell c c) (v == v) (same_cell-self c) (eq-eqb v v refl)
@@ -264,19 +264,19 @@ accesses_by_owner m history ok legal i e x at is = (
 -- ---- reads
 
 -- a read's byte is put out by its fourth move
-abbrev is_rd : Request → Bool
+abbrev pub is_rd : Request → Bool
 is_rd (request.Rd x) = true
 is_rd _ = false
 
-abbrev Unread : Option Open → Type 0
+abbrev pub Unread : Option Open → Type 0
 Unread None = Unit {0}
 Unread (Some o) = is_rd o.asks ≡ true → o.made ≤ 3 → o.out ≡ None
 
-rd_is : (r : Request) → is_rd r ≡ true → (x : ℕ) × (r ≡ request.Rd x)
+pub rd_is : (r : Request) → is_rd r ≡ true → (x : ℕ) × (r ≡ request.Rd x)
 rd_is (request.Rd x) is = (x, refl)
 rd_is _ is = cc
 
-rd_place : (x b k v : ℕ) → slice_get (wire (request.Rd x) b) k ≡ Some (move.Ctl (effect.Out v)) → (k ≡ 3) × (v ≡ b)
+pub rd_place : (x b k v : ℕ) → slice_get (wire (request.Rd x) b) k ≡ Some (move.Ctl (effect.Out v)) → (k ≡ 3) × (v ≡ b)
 rd_place x b zero v at = cc
 rd_place x b (suc zero) v at = cc
 rd_place x b (suc (suc zero)) v at = cc
@@ -284,16 +284,16 @@ rd_place x b (suc (suc (suc zero))) v at = (refl, cc)
 rd_place x b (suc (suc (suc (suc zero)))) v at = cc
 rd_place x b (suc (suc (suc (suc (suc k))))) v at = cc
 
-out_place : (m : MachineData) (past : List Entry) (v : ℕ) (o : Open) (x : ℕ) → o.asks ≡ request.Rd x → is_ctl_move (effect.Out v) (next_in m past (Some o)) ≡ true → (o.made ≡ 3) × (v ≡ blank m past o)
+pub out_place : (m : MachineData) (past : List Entry) (v : ℕ) (o : Open) (x : ℕ) → o.asks ≡ request.Rd x → is_ctl_move (effect.Out v) (next_in m past (Some o)) ≡ true → (o.made ≡ 3) × (v ≡ blank m past o)
 out_place m past v o x rd is =
     let next = ctl_next (effect.Out v) (next_in m past (Some o)) is in
     rd_place x (blank m past o) o.made v (subst (λ r. slice_get (wire r (blank m past o)) o.made ≡ Some (move.Ctl (effect.Out v))) rd next)
 
-unread_moved : (oo : Option Open) → Unread oo → Unread (moved oo)
+pub unread_moved : (oo : Option Open) → Unread oo → Unread (moved oo)
 unread_moved None before = tt
 unread_moved (Some o) before = λ rd few. before rd (let most : o.made + 1 ≤ 3 = few in omega arith)
 
-unread_out : (m : MachineData) (past : List Entry) (v : ℕ) (oo : Option Open) → is_ctl_move (effect.Out v) (next_in m past oo) ≡ true → Unread (put_out v oo)
+pub unread_out : (m : MachineData) (past : List Entry) (v : ℕ) (oo : Option Open) → is_ctl_move (effect.Out v) (next_in m past oo) ≡ true → Unread (put_out v oo)
 unread_out m past v None is = tt
 unread_out m past v (Some o) is = λ rd few. (
     let x = rd_is o.asks rd in
@@ -301,7 +301,7 @@ unread_out m past v (Some o) is = λ rd few. (
     let most : o.made + 1 ≤ 3 = few in
     absurd (omega arith))
 
-unread_deed : (m : MachineData) (past : List Entry) (a : Actor) (d : Deed) → Allowed m past (entry a d) → Unread (open_of past) → Unread (open_after a d (open_of past))
+pub unread_deed : (m : MachineData) (past : List Entry) (a : Actor) (d : Deed) → Allowed m past (entry a d) → Unread (open_of past) → Unread (open_after a d (open_of past))
 unread_deed m past a (deed.Begin r) ok before = λ rd few. refl
 unread_deed m past a (deed.Take v) ok before = tt
 unread_deed m past a (deed.Step h) ok before = unread_moved (open_of past) before
@@ -311,15 +311,15 @@ unread_deed m past a (deed.Ctl effect.Put) ok before = unread_moved (open_of pas
 unread_deed m past a (deed.Ctl (effect.Out v)) ok before = unread_out m past v (open_of past) (hold m past a (deed.Ctl (effect.Out v)) ok).1.1.1.0
 unread_deed m past a _ ok before = before
 
-unread : (m : MachineData) (past : List Entry) → LegalPast m past → Unread (open_of past)
+pub unread : (m : MachineData) (past : List Entry) → LegalPast m past → Unread (open_of past)
 unread m [] legal = tt
 unread m (e ∷ past) legal = unread_deed m past e.actor e.deed legal.0 (unread m past legal.1)
 
-abbrev GivesLast : MachineData → List Entry → Option Access → Type 0
+abbrev pub GivesLast : MachineData → List Entry → Option Access → Type 0
 GivesLast m past None = Unit {0}
 GivesLast m past (Some x) = x.writes ≡ false → x.byte ≡ value m past x.cell
 
-read_out : (m : MachineData) (past : List Entry) (v : ℕ) (o : Open) → Unread (Some o) → is_ctl_move (effect.Out v) (next_in m past (Some o)) ≡ true → GivesLast m past (ctl_access m o.by o.asks (effect.Out v))
+pub read_out : (m : MachineData) (past : List Entry) (v : ℕ) (o : Open) → Unread (Some o) → is_ctl_move (effect.Out v) (next_in m past (Some o)) ≡ true → GivesLast m past (ctl_access m o.by o.asks (effect.Out v))
 read_out m past v o before is = at o.asks refl
   where
     at : (r : Request) → o.asks ≡ r → GivesLast m past (ctl_access m o.by r (effect.Out v))
@@ -332,7 +332,7 @@ read_out m past v o before is = at o.asks refl
     at request.Bd rd = tt
     at request.Qr rd = tt
 
-ctl_gives : (m : MachineData) (past : List Entry) (e : Effect) (oo : Option Open) → Unread oo → is_ctl_move e (next_in m past oo) ≡ true → GivesLast m past (open_access m oo e)
+pub ctl_gives : (m : MachineData) (past : List Entry) (e : Effect) (oo : Option Open) → Unread oo → is_ctl_move e (next_in m past oo) ≡ true → GivesLast m past (open_access m oo e)
 ctl_gives m past e None before is = tt
 ctl_gives m past (effect.Out v) (Some o) before is = read_out m past v o before is
 ctl_gives m past effect.Taken (Some o) before is = subst (GivesLast m past) (sym (taken_none m o.by o.asks)) tt
@@ -346,11 +346,11 @@ ctl_gives m past effect.Put (Some o) before is = put o.asks
     put request.Bd = tt
     put request.Qr = tt
 
-calm_gives : (m : MachineData) (past : List Entry) (oo : Option Open) → GivesLast m past (open_access m oo effect.Calm)
+pub calm_gives : (m : MachineData) (past : List Entry) (oo : Option Open) → GivesLast m past (open_access m oo effect.Calm)
 calm_gives m past None = tt
 calm_gives m past (Some o) = subst (GivesLast m past) (sym (calm_none m o.by o.asks)) tt
 
-gives_last : (m : MachineData) (past : List Entry) (a : Actor) (d : Deed) → LegalPast m past → Allowed m past (entry a d) → GivesLast m past (access_of m past (entry a d))
+pub gives_last : (m : MachineData) (past : List Entry) (a : Actor) (d : Deed) → LegalPast m past → Allowed m past (entry a d) → GivesLast m past (access_of m past (entry a d))
 gives_last m past a (deed.Read c v) legal ok = λ reads. eqb-true v (value m past c) (hold m past a (deed.Read c v) ok).1.1.1.0
 gives_last m past a (deed.Write c v) legal ok = λ reads. cc
 gives_last m past a (deed.Ctl effect.Calm) legal ok = calm_gives m past (open_of past)
@@ -365,11 +365,11 @@ reads_last m history legal i e x at is reads =
 
 -- ---- between two owns
 
-abbrev Stands : Entry → List Entry → Type 0
+abbrev pub Stands : Entry → List Entry → Type 0
 Stands e xs = (j : ℕ) × (slice_get xs j ≡ Some e)
 
 -- since an own either its actor still owns, or it has disowned
-since_own : (m : MachineData) (a : Actor) (older newer : List Entry) → LegalPast m (newer ++ (entry a deed.Own ∷ older)) → Stands (entry a deed.Disown) newer ⊎ (owner (newer ++ (entry a deed.Own ∷ older)) ≡ Some a)
+pub since_own : (m : MachineData) (a : Actor) (older newer : List Entry) → LegalPast m (newer ++ (entry a deed.Own ∷ older)) → Stands (entry a deed.Disown) newer ⊎ (owner (newer ++ (entry a deed.Own ∷ older)) ≡ Some a)
 since_own m a older [] legal = inr refl
 since_own m a older (e ∷ newer) legal = at e.actor e.deed legal.0 (since_own m a older newer legal.1)
   where
@@ -382,17 +382,17 @@ since_own m a older (e ∷ newer) legal = at e.actor e.deed legal.0 (since_own m
     at b deed.Disown ok (inr owns) = let its = someone_is b (owner (newer ++ (entry a deed.Own ∷ older))) (hold m (newer ++ (entry a deed.Own ∷ older)) b deed.Disown ok).1.1.0 in inl (zero, ap (λ x. Some (entry x deed.Disown)) (some-injective b a (sym its ∙ owns)))
     at b _ ok (inr owns) = inr owns
 
-joined : (later between earlier : List Entry) (x y : Entry) → (((later ++ y ∷ []) ++ between) ++ x ∷ []) ++ earlier ≡ later ++ (y ∷ (between ++ (x ∷ earlier)))
+pub joined : (later between earlier : List Entry) (x y : Entry) → (((later ++ y ∷ []) ++ between) ++ x ∷ []) ++ earlier ≡ later ++ (y ∷ (between ++ (x ∷ earlier)))
 joined later between earlier x y =
     append_assoc ((later ++ y ∷ []) ++ between) (x ∷ []) earlier ∙ (append_assoc (later ++ y ∷ []) between (x ∷ earlier) ∙ append_assoc later (y ∷ []) (between ++ (x ∷ earlier)))
 
-reversed : (earlier between later : List Entry) (x y : Entry) → reverse (earlier ++ (x ∷ (between ++ (y ∷ later)))) ≡ reverse later ++ (y ∷ (reverse between ++ (x ∷ reverse earlier)))
+pub reversed : (earlier between later : List Entry) (x y : Entry) → reverse (earlier ++ (x ∷ (between ++ (y ∷ later)))) ≡ reverse later ++ (y ∷ (reverse between ++ (x ∷ reverse earlier)))
 reversed earlier between later x y =
     reverse-append earlier (x ∷ (between ++ (y ∷ later)))
     ∙ (ap (λ l. l ++ reverse earlier) (reverse-cons x (between ++ (y ∷ later)) ∙ ap (λ l. l ++ x ∷ []) (reverse-append between (y ∷ later) ∙ ap (λ l. l ++ reverse between) (reverse-cons y later)))
     ∙ joined (reverse later) (reverse between) (reverse earlier) x y)
 
-stands_reverse : (e : Entry) (xs : List Entry) → Stands e (reverse xs) → Stands e xs
+pub stands_reverse : (e : Entry) (xs : List Entry) → Stands e (reverse xs) → Stands e xs
 stands_reverse e [] stands = stands
 stands_reverse e (x ∷ xs) stands =
     elim (slice_get-push (reverse xs) x stands.0 e (subst (λ l. slice_get l stands.0 ≡ Some e) (reverse-cons x xs) stands.1)) [
@@ -419,17 +419,17 @@ disowns_between m earlier between later a b legal =
 -- ---- between a disown and a leave
 
 -- others' entries leave an actor's stage
-stage_beside : (a : Actor) (newer older : List Entry) → ((j : ℕ) (e : Entry) → slice_get newer j ≡ Some e → same_actor a e.actor ≡ false) → stage a (newer ++ older) ≡ stage a older
+pub stage_beside : (a : Actor) (newer older : List Entry) → ((j : ℕ) (e : Entry) → slice_get newer j ≡ Some e → same_actor a e.actor ≡ false) → stage a (newer ++ older) ≡ stage a older
 stage_beside a [] older others = refl
 stage_beside a (e ∷ newer) older others = rw (others zero e refl) (stage_beside a newer older (λ j x at. others (suc j) x at))
 
-quit_now : (m : MachineData) (past : List Entry) (a : Actor) → LegalPast m past → runs_scripts m a ≡ true → stage a past ≡ Disowned → has_quit m past a ≡ true
+pub quit_now : (m : MachineData) (past : List Entry) (a : Actor) → LegalPast m past → runs_scripts m a ≡ true → stage a past ≡ Disowned → has_quit m past a ≡ true
 quit_now m past a legal runs is =
     let at = staged m past a legal in
     let words = subst (λ st. Words st (has_owned a past) (has_disowned a past) (is_busy a past)) is at.2 in
     and_from (runs_scripts m a && is_seeker past a) (has_disowned a past) (and_from (runs_scripts m a) (is_seeker past a) runs (at.0 ∙ ap is_active is)) words.1
 
-only_leaves : (b l : Bool) → b ≡ true → (if b then l else not l) ≡ true → l ≡ true
+pub only_leaves : (b l : Bool) → b ≡ true → (if b then l else not l) ≡ true → l ≡ true
 only_leaves true l is h = h
 only_leaves false l is h = cc
 
@@ -444,14 +444,14 @@ leaves_next m earlier between later a d legal others =
 
 -- ---- who steps
 
-step_host : (m : MachineData) (o : Open) (a : Actor) (b : Bool) → stands_on side.Os o.by ≡ b → may_step m (Some o) a ≡ true → (b ≡ true → is_host a ≡ true) × (b ≡ false → a ≡ o.by)
+pub step_host : (m : MachineData) (o : Open) (a : Actor) (b : Bool) → stands_on side.Os o.by ≡ b → may_step m (Some o) a ≡ true → (b ≡ true → is_host a ≡ true) × (b ≡ false → a ≡ o.by)
 step_host m o a true is may = (λ t. subst (λ x. (if x then is_host a else (is_firmware m a && same_actor a o.by)) ≡ true) is may, λ f. cc)
 step_host m o a false is may = (λ t. cc, λ f. same_actor-true a o.by (and_parts (is_firmware m a) (same_actor a o.by) (subst (λ x. (if x then is_host a else (is_firmware m a && same_actor a o.by)) ≡ true) is may)).1)
 
-due_int : (m : MachineData) (past : List Entry) (a : Actor) → (not (is_int a) || due m past) ≡ true → a ≡ actor.Int → due m past ≡ true
+pub due_int : (m : MachineData) (past : List Entry) (a : Actor) → (not (is_int a) || due m past) ≡ true → a ≡ actor.Int → due m past ≡ true
 due_int m past a h is = subst (λ x. (not (is_int x) || due m past) ≡ true) is h
 
-step_of : (m : MachineData) (past : List Entry) (a : Actor) (h : HostMove) (oo : Option Open) → open_of past ≡ oo → Allowed m past (entry a (deed.Step h))
+pub step_of : (m : MachineData) (past : List Entry) (a : Actor) (h : HostMove) (oo : Option Open) → open_of past ≡ oo → Allowed m past (entry a (deed.Step h))
     → (o : Open) × (oo ≡ Some o) × (stands_on side.Os o.by ≡ true → is_host a ≡ true) × (stands_on side.Os o.by ≡ false → a ≡ o.by) × (a ≡ actor.Int → due m past ≡ true)
 step_of m past a h None is ok = let some = ap is_some (sym is) in let held = (hold m past a (deed.Step h) ok).1.1.0 in cc
 step_of m past a h (Some o) is ok =

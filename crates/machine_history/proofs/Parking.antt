@@ -19,25 +19,25 @@ use Rattle.machine_history.proofs.Claims.{starts_fresh}
 use Rattle.machine_history.proofs.Queries.{slot_kind}
 
 -- how many trues stand at the front
-abbrev leading : List Bool → ℕ
+abbrev pub leading : List Bool → ℕ
 leading [] = 0
 leading (true ∷ ms) = 1 + leading ms
 leading (false ∷ ms) = 0
 
 -- what a touch makes of the count of runs in a row
-abbrev storm_by : Bool → Option Touch → ℕ → ℕ
+abbrev pub storm_by : Bool → Option Touch → ℕ → ℕ
 storm_by on (Some touch.Assert) k = 0
 storm_by on (Some touch.Drop) k = 0
 storm_by on (Some touch.Finish) k = if on then min 16 (k + 1) else 0
 storm_by on _ k = k
 
-storm_touch : (t : Touch) (s : Slot) → (chip.touched t s).state.storm ≡ storm_by s.state.line (Some t) s.state.storm
+pub storm_touch : (t : Touch) (s : Slot) → (chip.touched t s).state.storm ≡ storm_by s.state.line (Some t) s.state.storm
 storm_touch touch.Assert s = refl
 storm_touch touch.Drop s = refl
 storm_touch touch.Finish s = refl
 storm_touch _ s = refl
 
-storm_slot : (n : Event) (o : Option Touched) (s : Slot) → (slot_after n o s).state.storm ≡ storm_by s.state.line (done_to n o) s.state.storm
+pub storm_slot : (n : Event) (o : Option Touched) (s : Slot) → (slot_after n o s).state.storm ≡ storm_by s.state.line (done_to n o) s.state.storm
 storm_slot n None s = refl
 storm_slot n (Some t) s = at (same_event t.event n)
   where
@@ -45,7 +45,7 @@ storm_slot n (Some t) s = at (same_event t.event n)
     at true = storm_touch t.by s
     at false = refl
 
-leading-by : (on : Bool) (o : Option Touch) (ms : List Bool) (k : ℕ) → k ≡ min 16 (leading ms) → storm_by on o k ≡ min 16 (leading (mark_by on o ++ ms))
+pub leading-by : (on : Bool) (o : Option Touch) (ms : List Bool) (k : ℕ) → k ≡ min 16 (leading ms) → storm_by on o k ≡ min 16 (leading (mark_by on o ++ ms))
 leading-by on None ms k is = is
 leading-by on (Some touch.Assert) ms k is = omega arith
 leading-by on (Some touch.Drop) ms k is = omega arith
@@ -56,18 +56,18 @@ leading-by on (Some touch.Claim) ms k is = is
 leading-by on (Some touch.Up) ms k is = is
 leading-by on (Some touch.Down) ms k is = is
 
-storm-leading : (m : MachineData) (n : Event) (past : List Entry) → (slot m past n).state.storm ≡ min 16 (leading (marks m past n))
+pub storm-leading : (m : MachineData) (n : Event) (past : List Entry) → (slot m past n).state.storm ≡ min 16 (leading (marks m past n))
 storm-leading m n [] = let f = starts_fresh m n in let is = ap (λ (s : EventState). s.storm) f.1 in omega arith
 storm-leading m n (e ∷ past) = storm_slot n (touched m past e) (slot m past n) ∙ leading-by (line m past n) (done_to n (touched m past e)) (marks m past n) (slot m past n).state.storm (storm-leading m n past)
 
-leading-all : (ms : List Bool) (k : ℕ) → k ≤ leading ms → (i : ℕ) → i < k → slice_get ms i ≡ Some true
+pub leading-all : (ms : List Bool) (k : ℕ) → k ≤ leading ms → (i : ℕ) → i < k → slice_get ms i ≡ Some true
 leading-all [] k within i below = absurd (omega arith)
 leading-all (false ∷ ms) k within i below = absurd (omega arith)
 leading-all (true ∷ ms) k within zero below = refl
 leading-all (true ∷ ms) zero within (suc i) below = absurd (omega arith)
 leading-all (true ∷ ms) (suc k) within (suc i) below = leading-all ms k (omega arith) i (omega arith)
 
-all-leading : (ms : List Bool) (k : ℕ) → ((i : ℕ) → i < k → slice_get ms i ≡ Some true) → k ≤ leading ms
+pub all-leading : (ms : List Bool) (k : ℕ) → ((i : ℕ) → i < k → slice_get ms i ≡ Some true) → k ≤ leading ms
 all-leading ms zero all = omega arith
 all-leading [] (suc k) all = let first = all 0 (omega arith) in absurd (none first)
   where

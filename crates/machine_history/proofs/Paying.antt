@@ -32,7 +32,7 @@ next_cost f (Do needs a more) k byte x next costs =
     (costs.0, subst (λ y. f y + costs.0 ≤ k) same costs.1, costs.2 byte)
 
 -- the act that a deed passes is the one that it is charged for
-plain_act : (f : Act → ℕ) (x : Act) (d : Deed) → is_plain d ≡ true → asked x d ≡ true → f x ≡ charge f d
+pub plain_act : (f : Act → ℕ) (x : Act) (d : Deed) → is_plain d ≡ true → asked x d ≡ true → f x ≡ charge f d
 plain_act f act.Unlock deed.Disown plain is = refl
 plain_act f (act.Read c) (deed.Read e v) plain is = ap (λ y. f (act.Read y)) (same_cell-true c e is)
 plain_act f (act.Write c v) (deed.Write e w) plain is = let p = and_parts _ _ is in ap (λ y. f (act.Write y v)) (same_cell-true c e p.0) ∙ ap (λ y. f (act.Write e y)) (eqb-true v w p.1)
@@ -54,7 +54,7 @@ asked_price f a None = 0
 asked_price f a (Some o) = when (same_actor a o.by) (f (act.Ask o.asks))
 
 -- what was charged and what is left is at most what was allowed and what is in flight
-abbrev PaysAt : (Act → ℕ) → Actor → Stage → Plan → Option Open → ℕ → ℕ → Type 0
+abbrev pub PaysAt : (Act → ℕ) → Actor → Stage → Plan → Option Open → ℕ → ℕ → Type 0
 PaysAt f a st p oo t n = (k : ℕ) × Costs f p k × (t + k ≤ n + (when (is_trying_at st) (f act.Lock) + asked_price f a oo))
 
 -- the prices of whole plans: of each job, and of what an actor has before it at the start
@@ -72,36 +72,36 @@ start_worth w made _ = 0
 abbrev pub started : (Option Job → ℕ) → MachineData → Count
 started w m past e = start_worth w (jobs m past) e.deed
 
-asked_moved : (f : Act → ℕ) (a : Actor) (oo : Option Open) → asked_price f a (moved oo) ≡ asked_price f a oo
+pub asked_moved : (f : Act → ℕ) (a : Actor) (oo : Option Open) → asked_price f a (moved oo) ≡ asked_price f a oo
 asked_moved f a None = refl
 asked_moved f a (Some o) = refl
 
-asked_put : (f : Act → ℕ) (a : Actor) (v : ℕ) (oo : Option Open) → asked_price f a (put_out v oo) ≡ asked_price f a oo
+pub asked_put : (f : Act → ℕ) (a : Actor) (v : ℕ) (oo : Option Open) → asked_price f a (put_out v oo) ≡ asked_price f a oo
 asked_put f a v None = refl
 asked_put f a v (Some o) = refl
 
-asked_none : (f : Act → ℕ) (a : Actor) (oo : Option Open) → is_none oo ≡ true → asked_price f a oo ≡ 0
+pub asked_none : (f : Act → ℕ) (a : Actor) (oo : Option Open) → is_none oo ≡ true → asked_price f a oo ≡ 0
 asked_none f a None none = refl
 asked_none f a (Some o) none = cc
 
-asked_own : (f : Act → ℕ) (a : Actor) (r : Request) → asked_price f a (Some (begun a r)) ≡ f (act.Ask r)
+pub asked_own : (f : Act → ℕ) (a : Actor) (r : Request) → asked_price f a (Some (begun a r)) ≡ f (act.Ask r)
 asked_own f a r = rw (same_self a) refl
 
-asked_open : (f : Act → ℕ) (a : Actor) (oo : Option Open) (o : Open) → oo ≡ Some o → same_actor a o.by ≡ true → asked_price f a oo ≡ f (act.Ask o.asks)
+pub asked_open : (f : Act → ℕ) (a : Actor) (oo : Option Open) (o : Open) → oo ≡ Some o → same_actor a o.by ≡ true → asked_price f a oo ≡ f (act.Ask o.asks)
 asked_open f a oo o is same = ap (asked_price f a) is ∙ ap (λ b. when b (f (act.Ask o.asks))) same
 
 -- what another asks is not asked by this one
-asked_other : (f : Act → ℕ) (a b : Actor) (oo : Option Open) → same_actor a b ≡ false → is_opener b oo ≡ true → asked_price f a oo ≡ 0
+pub asked_other : (f : Act → ℕ) (a b : Actor) (oo : Option Open) → same_actor a b ≡ false → is_opener b oo ≡ true → asked_price f a oo ≡ 0
 asked_other f a b None other is = refl
 asked_other f a b (Some o) other is = let by = same_actor-true b o.by is in let no : same_actor a o.by ≡ false = ap (same_actor a) (sym by) ∙ other in rw no refl
 
-trying_price : (f : Act → ℕ) (st : Stage) (b : Bool) → is_trying_at st ≡ b → when (is_trying_at st) (f act.Lock) ≡ when b (f act.Lock)
+pub trying_price : (f : Act → ℕ) (st : Stage) (b : Bool) → is_trying_at st ≡ b → when (is_trying_at st) (f act.Lock) ≡ when b (f act.Lock)
 trying_price f st b is = ap (λ x. when x (f act.Lock)) is
 
-abbrev Paid : (Option Job → ℕ) → (Act → ℕ) → MachineData → List Entry → Actor → Deed → ℕ → ℕ → Type 0
+abbrev pub Paid : (Option Job → ℕ) → (Act → ℕ) → MachineData → List Entry → Actor → Deed → ℕ → ℕ → Type 0
 Paid w f m past a d t n = PaysAt f a (stage_after d (stage a past)) (left_after m (jobs m past) d (plan_left m past a)) (open_after a d (open_of past)) (charge f d + t) (start_worth w (jobs m past) d + n)
 
-own_plain : (f : Act → ℕ) (m : MachineData) (past : List Entry) (a : Actor) (d : Deed) (byte t n : ℕ) → is_plain d ≡ true → asked_by (next_of m past a) d ≡ true
+pub own_plain : (f : Act → ℕ) (m : MachineData) (past : List Entry) (a : Actor) (d : Deed) (byte t n : ℕ) → is_plain d ≡ true → asked_by (next_of m past a) d ≡ true
     → PaysAt f a (stage a past) (plan_left m past a) (open_of past) t n → PaysAt f a (stage a past) (plan_after byte (plan_left m past a)) (open_of past) (charge f d + t) (0 + n)
 own_plain f m past a d byte t n plain is pays =
     let next = some_asked (next_of m past a) d is in
@@ -111,7 +111,7 @@ own_plain f m past a d byte t n plain is pays =
     let first : f next.0 + paid.0 ≤ pays.0 = paid.1 in
     (paid.0, paid.2, omega arith)
 
-own_pays : (w : Option Job → ℕ) (f : Act → ℕ) (m : MachineData) (past : List Entry) (a : Actor) (d : Deed) (t n : ℕ) → JobsCost f m w → Allowed m past (record { actor = a; deed = d }) → Follows d (stage a past) → Kept m past a
+pub own_pays : (w : Option Job → ℕ) (f : Act → ℕ) (m : MachineData) (past : List Entry) (a : Actor) (d : Deed) (t n : ℕ) → JobsCost f m w → Allowed m past (record { actor = a; deed = d }) → Follows d (stage a past) → Kept m past a
     → PaysAt f a (stage a past) (plan_left m past a) (open_of past) t n → Paid w f m past a d t n
 own_pays w f m past a deed.Seek t n costs ok at k pays =
     let still = trying_price f (stage a past) false (ap is_trying_at at) in
@@ -163,7 +163,7 @@ own_pays w f m past a (deed.Up x) t n costs ok at k pays = own_plain f m past a 
 own_pays w f m past a (deed.Down x) t n costs ok at k pays = own_plain f m past a (deed.Down x) 0 t n refl (hold m past a (deed.Down x) ok).1.1.0 pays
 
 -- another's entry leaves what this one asks
-other_asked : (f : Act → ℕ) (m : MachineData) (past : List Entry) (a b : Actor) (d : Deed) → Allowed m past (record { actor = b; deed = d }) → same_actor a b ≡ false → asked_price f a (open_of past) ≤ asked_price f a (open_after b d (open_of past))
+pub other_asked : (f : Act → ℕ) (m : MachineData) (past : List Entry) (a b : Actor) (d : Deed) → Allowed m past (record { actor = b; deed = d }) → same_actor a b ≡ false → asked_price f a (open_of past) ≤ asked_price f a (open_after b d (open_of past))
 other_asked f m past a b (deed.Begin r) ok other = let none = asked_none f a (open_of past) (hold m past b (deed.Begin r) ok).1.1.1.0 in omega arith
 other_asked f m past a b (deed.Take v) ok other = let none = asked_other f a b (open_of past) other (hold m past b (deed.Take v) ok).1.1.0 in omega arith
 other_asked f m past a b (deed.Step g) ok other = let same = asked_moved f a (open_of past) in omega arith
@@ -173,11 +173,11 @@ other_asked f m past a b (deed.Ctl effect.Put) ok other = let same = asked_moved
 other_asked f m past a b (deed.Ctl (effect.Out v)) ok other = let same = asked_put f a v (open_of past) in omega arith
 other_asked f m past a b _ ok other = omega arith
 
-abbrev Pays : (Option Job → ℕ) → (Actor → ℕ) → (Act → ℕ) → MachineData → List Entry → Actor → Type 0
+abbrev pub Pays : (Option Job → ℕ) → (Actor → ℕ) → (Act → ℕ) → MachineData → List Entry → Actor → Type 0
 Pays w v f m past a = PaysAt f a (stage a past) (plan_left m past a) (open_of past) (total (own a (charged f)) past) (v a + total (own a (started w m)) past)
 
 -- the numbers may be written otherwise
-recounted : (f : Act → ℕ) (a : Actor) (st : Stage) (p : Plan) (oo : Option Open) (t t' n n' : ℕ) → t' ≡ t → n' ≡ n → PaysAt f a st p oo t n → PaysAt f a st p oo t' n'
+pub recounted : (f : Act → ℕ) (a : Actor) (st : Stage) (p : Plan) (oo : Option Open) (t t' n n' : ℕ) → t' ≡ t → n' ≡ n → PaysAt f a st p oo t n → PaysAt f a st p oo t' n'
 recounted f a st p oo t t' n n' ts ns pays = (pays.0, pays.1, (let within = pays.2 in omega arith))
 
 pub pays : (w : Option Job → ℕ) (v : Actor → ℕ) (f : Act → ℕ) (m : MachineData) (a : Actor) → JobsCost f m w → FirstsCost f m v → (past : List Entry) → LegalPast m past → Pays w v f m past a
@@ -199,7 +199,7 @@ pays w v f m a costs firsts (e ∷ past) legal = at (same_actor a e.actor) refl 
 
 -- ---- at the end nothing is owed: what is in flight is still in the plan
 
-owed_trying : (f : Act → ℕ) (x : Act) (b : Bool) (oo : Option Open) (a : Actor) → (b ≡ true → Some x ≡ Some act.Lock) → AsksAt a (Some x) oo → when b (f act.Lock) + asked_price f a oo ≤ f x
+pub owed_trying : (f : Act → ℕ) (x : Act) (b : Bool) (oo : Option Open) (a : Actor) → (b ≡ true → Some x ≡ Some act.Lock) → AsksAt a (Some x) oo → when b (f act.Lock) + asked_price f a oo ≤ f x
 owed_trying f x true None a trying asks = let same : act.Lock ≡ x = (let both = trying refl in cc) in let price = ap f same in omega arith
 owed_trying f x false None a trying asks = omega arith
 owed_trying f x b (Some o) a trying asks = at (same_actor a o.by) refl b trying
@@ -212,7 +212,7 @@ owed_trying f x b (Some o) a trying asks = at (same_actor a o.by) refl b trying
     at false other true trying = let same : act.Lock ≡ x = (let both = trying refl in cc) in let price = ap f same in omega arith
     at false other false trying = omega arith
 
-owed_none : (f : Act → ℕ) (b : Bool) (oo : Option Open) (a : Actor) → (b ≡ true → None ≡ Some act.Lock) → AsksAt a None oo → when b (f act.Lock) + asked_price f a oo ≡ 0
+pub owed_none : (f : Act → ℕ) (b : Bool) (oo : Option Open) (a : Actor) → (b ≡ true → None ≡ Some act.Lock) → AsksAt a None oo → when b (f act.Lock) + asked_price f a oo ≡ 0
 owed_none f true oo a trying asks = let both = trying refl in cc
 owed_none f false None a trying asks = refl
 owed_none f false (Some o) a trying asks = at (same_actor a o.by) refl
@@ -221,7 +221,7 @@ owed_none f false (Some o) a trying asks = at (same_actor a o.by) refl
     at true same = let both = asks same in cc
     at false other = refl
 
-owed : (f : Act → ℕ) (a : Actor) (st : Stage) (p : Plan) (oo : Option Open) (k : ℕ) → (is_trying_at st ≡ true → next_act p ≡ Some act.Lock) → AsksAt a (next_act p) oo → Costs f p k → when (is_trying_at st) (f act.Lock) + asked_price f a oo ≤ k
+pub owed : (f : Act → ℕ) (a : Actor) (st : Stage) (p : Plan) (oo : Option Open) (k : ℕ) → (is_trying_at st ≡ true → next_act p ≡ Some act.Lock) → AsksAt a (next_act p) oo → Costs f p k → when (is_trying_at st) (f act.Lock) + asked_price f a oo ≤ k
 owed f a st End oo k trying asks costs = let none = owed_none f (is_trying_at st) oo a trying asks in omega arith
 owed f a st (Do needs x next) oo k trying asks costs = let most = owed_trying f x (is_trying_at st) oo a trying asks in let first = costs.1 in omega arith
 

@@ -34,10 +34,10 @@ slice_get-seam [] y = refl
 slice_get-seam (x ∷ xs) y = slice_get-seam xs y
 
 -- what stands before an entry stays when the history grows
-allowed_push : (m : MachineData) (history : List Entry) (newest e : Entry) (i : ℕ) → i ≤ length history → Allowed m (reverse (take i (history ++ newest ∷ []))) e ≡ Allowed m (reverse (take i history)) e
+pub allowed_push : (m : MachineData) (history : List Entry) (newest e : Entry) (i : ℕ) → i ≤ length history → Allowed m (reverse (take i (history ++ newest ∷ []))) e ≡ Allowed m (reverse (take i history)) e
 allowed_push m history newest e i within = ap (λ h. Allowed m (reverse h) e) (take-append-le i history (newest ∷ []) within)
 
-allowed_newest : (m : MachineData) (past : List Entry) (newest e : Entry) → Allowed m (reverse (take (length (reverse past)) (reverse past ++ newest ∷ []))) e ≡ Allowed m past e
+pub allowed_newest : (m : MachineData) (past : List Entry) (newest e : Entry) → Allowed m (reverse (take (length (reverse past)) (reverse past ++ newest ∷ []))) e ≡ Allowed m past e
 allowed_newest m past newest e =
     ap (λ h. Allowed m (reverse h) e) (take-append_seam (reverse past) (newest ∷ [])) ∙ ap (λ h. Allowed m h e) (reverse-reverse past)
 

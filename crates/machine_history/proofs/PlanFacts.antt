@@ -77,7 +77,7 @@ pub record IsFree (P : Bool → Act → Bool) : Type 0 where
   pub reads : (needs : Bool) (of_kind : RegionKind) (field : Field) (k : ℕ) → P needs (read_in of_kind field k) ≡ true
   pub writes : (needs : Bool) (of_kind : RegionKind) (field : Field) (k byte : ℕ) → P needs (write_in of_kind field k byte) ≡ true
 
-on_fields : (P : Bool → Act → Bool) → IsFree P → (field : Field) → IsTrueOn P field
+pub on_fields : (P : Bool → Act → Bool) → IsFree P → (field : Field) → IsTrueOn P field
 on_fields P free field = record {
   lock = λ n. (free.lock, free.unlock);
   burst = λ b. (free.be, free.bd);
@@ -85,7 +85,7 @@ on_fields P free field = record {
   write = λ held k byte below. free.writes (access_needs field held) field.kind field k byte;
 }
 
-script_each : (P : Bool → Act → Bool) → IsFree P → (fields : List Field) (ops : List Op) → ((i : ℕ) (o : Op) (a : Act) → slice_get ops i ≡ Some o → act_alone o ≡ Some a → P false a ≡ true) → Each P (plan fields ops)
+pub script_each : (P : Bool → Act → Bool) → IsFree P → (fields : List Field) (ops : List Op) → ((i : ℕ) (o : Op) (a : Act) → slice_get ops i ≡ Some o → act_alone o ≡ Some a → P false a ≡ true) → Each P (plan fields ops)
 script_each P free fields ops alone = each P fields ops (λ f field at. on_fields P free field) alone
 
 -- ---- what a query answers goes nowhere
@@ -99,21 +99,21 @@ abbrev pub Steady : Plan → Type 0
 Steady End = Unit {0}
 Steady (Do needs a next) = (is_query_act a ≡ true → (byte : ℕ) → next byte ≡ next 0) × ((byte : ℕ) → Steady (next byte))
 
-abbrev asks_none : Bool → Act → Bool
+abbrev pub asks_none : Bool → Act → Bool
 asks_none needs a = not (is_query_act a)
 
-none_reads : (needs : Bool) (of_kind : RegionKind) (field : Field) (k : ℕ) → asks_none needs (read_in of_kind field k) ≡ true
+pub none_reads : (needs : Bool) (of_kind : RegionKind) (field : Field) (k : ℕ) → asks_none needs (read_in of_kind field k) ≡ true
 none_reads needs kind.Memory field k = refl
 none_reads needs kind.Controller field k = refl
 
-none_writes : (needs : Bool) (of_kind : RegionKind) (field : Field) (k byte : ℕ) → asks_none needs (write_in of_kind field k byte) ≡ true
+pub none_writes : (needs : Bool) (of_kind : RegionKind) (field : Field) (k byte : ℕ) → asks_none needs (write_in of_kind field k byte) ≡ true
 none_writes needs kind.Memory field k byte = refl
 none_writes needs kind.Controller field k byte = refl
 
-none_free : IsFree asks_none
+pub none_free : IsFree asks_none
 none_free = record { lock = refl; unlock = refl; be = refl; bd = refl; reads = none_reads; writes = none_writes }
 
-none_alone : (o : Op) (a : Act) → act_alone o ≡ Some a → asks_none false a ≡ true
+pub none_alone : (o : Op) (a : Act) → act_alone o ≡ Some a → asks_none false a ≡ true
 none_alone (op.Read f) a is = cc
 none_alone (op.Write f v) a is = cc
 none_alone (op.Add f v) a is = cc
@@ -128,7 +128,7 @@ none_alone (op.Raise e) a is = subst (λ x. asks_none false x ≡ true) (some-in
 none_alone (op.Assert e) a is = subst (λ x. asks_none false x ≡ true) (some-injective _ a is) refl
 none_alone (op.Push q) a is = subst (λ x. asks_none false x ≡ true) (some-injective _ a is) refl
 
-each_steady : (p : Plan) → Each asks_none p → Steady p
+pub each_steady : (p : Plan) → Each asks_none p → Steady p
 each_steady End all = tt
 each_steady (Do needs a next) all = ((λ asks byte. absurd (both (is_query_act a) asks all.0)), λ byte. each_steady (next byte) (all.1 byte))
   where
@@ -136,20 +136,20 @@ each_steady (Do needs a next) all = ((λ asks byte. absurd (both (is_query_act a
     both true is isnt = cc
     both false is isnt = cc
 
-script_steady : (fields : List Field) (ops : List Op) → Steady (plan fields ops)
+pub script_steady : (fields : List Field) (ops : List Op) → Steady (plan fields ops)
 script_steady fields ops = each_steady (plan fields ops) (script_each asks_none none_free fields ops (λ i o a at is. none_alone o a is))
 
-first_steady : (m : MachineData) (a : Actor) → Steady (first_plan m a)
+pub first_steady : (m : MachineData) (a : Actor) → Steady (first_plan m a)
 first_steady m (actor.Firmware k) = script_steady m.fields (script_of m k)
 first_steady m _ = tt
 
-job_steady : (m : MachineData) (j : Option Job) → Steady (job_plan m j)
+pub job_steady : (m : MachineData) (j : Option Job) → Steady (job_plan m j)
 job_steady m None = tt
 job_steady m (Some (job.Event n)) = script_steady m.fields (event_script m n)
 job_steady m (Some job.Query) = ((λ asks byte. refl), λ b. ((λ asks byte. refl), λ b. ((λ asks byte. refl), λ b. tt)))
 job_steady m (Some (job.Code q)) = script_steady m.fields (code_script m q)
 
-after_steady : (p : Plan) (byte : ℕ) → Steady p → Steady (plan_after byte p)
+pub after_steady : (p : Plan) (byte : ℕ) → Steady p → Steady (plan_after byte p)
 after_steady End byte steady = tt
 after_steady (Do needs a next) byte steady = steady.1 byte
 

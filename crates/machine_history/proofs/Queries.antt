@@ -39,7 +39,7 @@ use Rattle.machine_history.proofs.Wires.{ctl_is, is_move}
 
 -- ---- the kind of an event stays
 
-kind_after : (n : Event) (o : Option Touched) (s : Slot) → (slot_after n o s).kind ≡ s.kind
+pub kind_after : (n : Event) (o : Option Touched) (s : Slot) → (slot_after n o s).kind ≡ s.kind
 kind_after n None s = refl
 kind_after n (Some t) s = at (same_event t.event n)
   where
@@ -63,7 +63,7 @@ abbrev pub next_status : Event → Option Touched → Bool → Bool
 next_status n None old = old
 next_status n (Some t) old = if same_event t.event n then status_by t.by old else old
 
-status_touch : (t : Touch) (s : Slot) → is_level s.kind ≡ false → (chip.touched t s).state.status ≡ status_by t s.state.status
+pub status_touch : (t : Touch) (s : Slot) → is_level s.kind ≡ false → (chip.touched t s).state.status ≡ status_by t s.state.status
 status_touch touch.Raise s edge = refl
 status_touch touch.Assert s edge = refl
 status_touch touch.Drop s edge = refl
@@ -85,37 +85,37 @@ status_next n (Some t) s edge = at (same_event t.event n)
 abbrev pub few : Bool → List ℕ → ℕ
 few s queue = one (s && not (is_empty queue)) + length queue
 
-few_more : (s t : Bool) (queue : List ℕ) → few t queue ≤ 1 + few s queue
+pub few_more : (s t : Bool) (queue : List ℕ) → few t queue ≤ 1 + few s queue
 few_more s t queue = let most = one_small (t && not (is_empty queue)) in omega arith
 
-length-more : (queue : List ℕ) (q : ℕ) → length (queue ++ q ∷ []) ≡ length queue + 1
+pub length-more : (queue : List ℕ) (q : ℕ) → length (queue ++ q ∷ []) ≡ length queue + 1
 length-more [] q = refl
 length-more (x ∷ queue) q = let before = length-more queue q in omega arith
 
-few_pushed : (s t : Bool) (queue : List ℕ) (q : ℕ) → few t (queue ++ q ∷ []) ≤ 2 + few s queue
+pub few_pushed : (s t : Bool) (queue : List ℕ) (q : ℕ) → few t (queue ++ q ∷ []) ≤ 2 + few s queue
 few_pushed s t queue q = let most = one_small (t && not (is_empty (queue ++ q ∷ []))) in let long = length-more queue q in omega arith
 
-few_given : (s t : Bool) (queue : List ℕ) → few t (drop 1 queue) ≤ few s queue
+pub few_given : (s t : Bool) (queue : List ℕ) → few t (drop 1 queue) ≤ few s queue
 few_given s true [] = omega arith
 few_given s false [] = omega arith
 few_given s t (q ∷ queue) = let most = one_small (t && not (is_empty queue)) in omega arith
 
-few_claimed : (s : Bool) (queue : List ℕ) → s ≡ true → one (not (is_empty queue)) + few false queue ≤ few s queue
+pub few_claimed : (s : Bool) (queue : List ℕ) → s ≡ true → one (not (is_empty queue)) + few false queue ≤ few s queue
 few_claimed s queue is = rw is (omega arith)
 
-few_quiet : (b s : Bool) (queue : List ℕ) → few (if b then s else s) queue ≤ few s queue
+pub few_quiet : (b s : Bool) (queue : List ℕ) → few (if b then s else s) queue ≤ few s queue
 few_quiet true s queue = omega arith
 few_quiet false s queue = omega arith
 
-few_set : (b s : Bool) (queue : List ℕ) → few (if b then true else s) queue ≤ one b + few s queue
+pub few_set : (b s : Bool) (queue : List ℕ) → few (if b then true else s) queue ≤ one b + few s queue
 few_set true s queue = few_more s true queue
 few_set false s queue = omega arith
 
-finish_quiet : (n : Event) (o : Option Event) (s : Bool) (queue : List ℕ) → few (next_status n (does_to touch.Finish o) s) queue ≤ few s queue
+pub finish_quiet : (n : Event) (o : Option Event) (s : Bool) (queue : List ℕ) → few (next_status n (does_to touch.Finish o) s) queue ≤ few s queue
 finish_quiet n None s queue = omega arith
 finish_quiet n (Some x) s queue = few_quiet (same_event x n) s queue
 
-leave_quiet : (n : Event) (b s : Bool) (queue : List ℕ) → same_event gbl n ≡ false → few (next_status n (if b then does touch.Raise gbl else None) s) queue ≤ few s queue
+pub leave_quiet : (n : Event) (b s : Bool) (queue : List ℕ) → same_event gbl n ≡ false → few (next_status n (if b then does touch.Raise gbl else None) s) queue ≤ few s queue
 leave_quiet n true s queue other = rw other (omega arith)
 leave_quiet n false s queue other = omega arith
 
@@ -138,7 +138,7 @@ abbrev pub is_out : Effect → Bool
 is_out (effect.Out v) = true
 is_out _ = false
 
-out_same : (e f : Effect) → same_effect e f ≡ true → is_out f ≡ true → is_out e ≡ true
+pub out_same : (e f : Effect) → same_effect e f ≡ true → is_out f ≡ true → is_out e ≡ true
 out_same (effect.Out v) (effect.Out w) same is = refl
 out_same effect.Taken (effect.Out w) same is = cc
 out_same effect.Put (effect.Out w) same is = cc
@@ -178,23 +178,23 @@ query_allows n o d = (charge (lifts n) d + latch_in n d) + (2 * is_push d + is_m
 abbrev pub query_allows_in : Event → Count
 query_allows_in n past e = query_allows n (open_of past) e.deed
 
-query_if : (empty : Bool) → is_query_job (if not empty then Some job.Query else None) ≡ one (not empty)
+pub query_if : (empty : Bool) → is_query_job (if not empty then Some job.Query else None) ≡ one (not empty)
 query_if true = refl
 query_if false = refl
 
-claim_query : (m : MachineData) (n : Event) (queue : List ℕ) → IsOwn m n → is_query_job (claimed_job m queue n) ≡ one (not (is_empty queue))
+pub claim_query : (m : MachineData) (n : Event) (queue : List ℕ) → IsOwn m n → is_query_job (claimed_job m queue n) ≡ one (not (is_empty queue))
 claim_query m n queue own = let is : is_own m n ≡ true = rw own.named (same_event-self n) in rw (own.unlisted, is) (query_if (is_empty queue))
 
-listed_none : (b : Bool) (x : Event) → is_query_job (if b then Some (job.Event x) else None) ≡ 0
+pub listed_none : (b : Bool) (x : Event) → is_query_job (if b then Some (job.Event x) else None) ≡ 0
 listed_none true x = refl
 listed_none false x = refl
 
-claim_other : (m : MachineData) (n x : Event) (queue : List ℕ) → IsOwn m n → same_event x n ≡ false → is_query_job (claimed_job m queue x) ≡ 0
+pub claim_other : (m : MachineData) (n x : Event) (queue : List ℕ) → IsOwn m n → same_event x n ≡ false → is_query_job (claimed_job m queue x) ≡ 0
 claim_other m n x queue own other =
     let is : is_own m x ≡ false = rw own.named (same_event-swap n x ∙ other) in
     rw is (listed_none (lists m x) x)
 
-take_query : (o : Option Open) (v : Option ℕ) → is_query_job (taken_job o v) ≡ 0
+pub take_query : (o : Option Open) (v : Option ℕ) → is_query_job (taken_job o v) ≡ 0
 take_query o None = refl
 take_query o (Some q) = at (asks_code o && not (q == 0))
   where
@@ -202,7 +202,7 @@ take_query o (Some q) = at (asks_code o && not (q == 0))
     at true = refl
     at false = refl
 
-claim_step : (m : MachineData) (past : List Entry) (n x : Event) (a : Actor) (b : Bool) → same_event x n ≡ b → IsOwn m n → Allowed m past (record { actor = a; deed = deed.Claim x })
+pub claim_step : (m : MachineData) (past : List Entry) (n x : Event) (a : Actor) (b : Bool) → same_event x n ≡ b → IsOwn m n → Allowed m past (record { actor = a; deed = deed.Claim x })
     → is_query_job (claimed_job m (codes past) x) + few (if b then false else status m past n) (codes past) ≤ few (status m past n) (codes past)
 claim_step m past n x a true same own ok =
     let is = same_event-true x n same in
@@ -212,17 +212,17 @@ claim_step m past n x a true same own ok =
     omega arith
 claim_step m past n x a false other own ok = let none = claim_other m n x (codes past) own other in omega arith
 
-few_move : (asks : Bool) (s t : Bool) (queue : List ℕ) → asks ≡ false → few t queue ≤ (if asks then 0 else 1) + few s queue
+pub few_move : (asks : Bool) (s t : Bool) (queue : List ℕ) → asks ≡ false → few t queue ≤ (if asks then 0 else 1) + few s queue
 few_move asks s t queue is = rw is (few_more s t queue)
 
-few_out : (asks : Bool) (s t : Bool) (queue : List ℕ) → few t (if asks then drop 1 queue else queue) ≤ (if asks then 0 else 1) + few s queue
+pub few_out : (asks : Bool) (s t : Bool) (queue : List ℕ) → few t (if asks then drop 1 queue else queue) ≤ (if asks then 0 else 1) + few s queue
 few_out true s t queue = let most = few_given s t queue in omega arith
 few_out false s t queue = few_more s t queue
 
 pub unasked : (m : MachineData) (past : List Entry) (e : Effect) (oo : Option Open) → is_ctl_move e (next_in m past oo) ≡ true → is_out e ≡ false → asks_code oo ≡ false
 unasked m past e oo is out = elim (cases_Bool (asks_code oo)) [ inl asks ↦ (let no_out = query_out m past e oo is asks in cc) | inr other ↦ other ]
 
-few_step : (m : MachineData) (past : List Entry) (n : Event) (a : Actor) (d : Deed) → IsOwn m n → Allowed m past (record { actor = a; deed = d })
+pub few_step : (m : MachineData) (past : List Entry) (n : Event) (a : Actor) (d : Deed) → IsOwn m n → Allowed m past (record { actor = a; deed = d })
     → is_query_job (made_by m (open_of past) (codes past) d) + few (next_status n (touch_of m (open_of past) (codes past) (jobs m past) a d) (status m past n)) (codes_after (open_of past) d (codes past)) ≤ query_allows n (open_of past) d + few (status m past n) (codes past)
 few_step m past n a (deed.Raise x) own ok =
     let most = few_set (same_event x n) (status m past n) (codes past) in
@@ -257,7 +257,7 @@ few_step m past n a (deed.Ctl (effect.Out v)) own ok =
 few_step m past n a (deed.Take v) own ok = let none = take_query (open_of past) v in omega arith
 few_step m past n a _ own ok = omega arith
 
-first_few : (m : MachineData) (n : Event) → few (status m [] n) [] ≡ 0
+pub first_few : (m : MachineData) (n : Event) → few (status m [] n) [] ≡ 0
 first_few m n = let f = starts_fresh m n in let is : status m [] n ≡ false = ap (λ (s : Rattle.event_chip.specs.declared.state.EventState.EventState). s.status) f.1 in rw is refl
 
 pub few_queries : (m : MachineData) (n : Event) → IsOwn m n → (past : List Entry) → LegalPast m past → total (queries_in m) past + few (status m past n) (codes past) ≤ 0 + total (query_allows_in n) past

@@ -28,38 +28,38 @@ sums-same f (x ∷ xs) = sum_by-cons f x xs ∙ ap (λ k. f x + k) (sums-same f 
 
 -- ---- entries
 
-taken : (b : Bool) → cond b (8 + 0) 0 ≡ 8 * one_if b
+pub taken : (b : Bool) → cond b (8 + 0) 0 ≡ 8 * one_if b
 taken true = refl
 taken false = refl
 
 -- burst mode, where the region is memory
-abbrev stray : ℕ → RegionKind → Bool → ℕ
+abbrev pub stray : ℕ → RegionKind → Bool → ℕ
 stray price kind.Memory burst = if burst then price else 0
 stray price kind.Controller burst = 0
 
 -- memory has no burst mode
-unburst : (price : ℕ) (k : RegionKind) (c : Bool) → stray price k (is_controller k && c) ≡ 0
+pub unburst : (price : ℕ) (k : RegionKind) (c : Bool) → stray price k (is_controller k && c) ≡ 0
 unburst price kind.Memory c = refl
 unburst price kind.Controller c = refl
 
-accessed : (k : RegionKind) (f : Field) (burst : Bool) (reads writes : ℕ) → cond burst (6 + 4) 0 + (reads * entries_price (read_in k f 0) + writes * entries_price (write_in k f 0 0)) ≤ access_size k burst reads writes + stray 10 k burst
+pub accessed : (k : RegionKind) (f : Field) (burst : Bool) (reads writes : ℕ) → cond burst (6 + 4) 0 + (reads * entries_price (read_in k f 0) + writes * entries_price (write_in k f 0 0)) ≤ access_size k burst reads writes + stray 10 k burst
 accessed kind.Memory f true reads writes = let r = mul-one reads in let w = mul-one writes in omega arith
 accessed kind.Memory f false reads writes = let r = mul-one reads in let w = mul-one writes in omega arith
 accessed kind.Controller f true reads writes = omega arith
 accessed kind.Controller f false reads writes = omega arith
 
-field_within : (f : Field) (held : Bool) (o : Op) → field_cost entries_price o held (Some f) ≤ weight.field_size f held o
+pub field_within : (f : Field) (held : Bool) (o : Op) → field_cost entries_price o held (Some f) ≤ weight.field_size f held o
 field_within f held o =
     let lock = taken (takes_lock f held) in
     let bytes = accessed f.kind f (bursts f) (reads_of o f) (writes_of o f) in
     let plain = unburst 10 f.kind (nat_lt 1 (byte_count f)) in
     omega arith
 
-named_within : (found : Option Field) (held : Bool) (o : Op) → field_cost entries_price o held found ≤ weight.size_on found held o
+pub named_within : (found : Option Field) (held : Bool) (o : Op) → field_cost entries_price o held found ≤ weight.size_on found held o
 named_within None held o = omega arith
 named_within (Some f) held o = field_within f held o
 
-op_within : (fields : List Field) (held : Bool) (o : Op) → op_cost entries_price fields held o ≤ op_size fields held o
+pub op_within : (fields : List Field) (held : Bool) (o : Op) → op_cost entries_price fields held o ≤ op_size fields held o
 unfolding op_size
 op_within fields held (op.Read f) = named_within (slice_get fields f) held (op.Read f)
 op_within fields held (op.Write f v) = named_within (slice_get fields f) held (op.Write f v)
@@ -75,7 +75,7 @@ op_within fields held (op.Raise e) = omega arith
 op_within fields held (op.Assert e) = omega arith
 op_within fields held (op.Push q) = omega arith
 
-from_within : (fields : List Field) (held : Bool) (ops : List Op) → ops_cost entries_price fields held ops ≤ size_from fields held ops
+pub from_within : (fields : List Field) (held : Bool) (ops : List Op) → ops_cost entries_price fields held ops ≤ size_from fields held ops
 from_within fields held [] = omega arith
 from_within fields held (o ∷ ops) =
     let one = op_within fields held o in
@@ -88,17 +88,17 @@ entries_within fields ops = from_within fields false ops
 
 -- ---- moves of the controller
 
-nothing : (b : Bool) → cond b (0 + 0) 0 ≡ 0
+pub nothing : (b : Bool) → cond b (0 + 0) 0 ≡ 0
 nothing true = refl
 nothing false = refl
 
-moves_accessed : (k : RegionKind) (f : Field) (burst : Bool) (reads writes : ℕ) → cond burst (1 + 1) 0 + (reads * moves_price (read_in k f 0) + writes * moves_price (write_in k f 0 0)) ≤ access_moves k burst reads writes + stray 2 k burst
+pub moves_accessed : (k : RegionKind) (f : Field) (burst : Bool) (reads writes : ℕ) → cond burst (1 + 1) 0 + (reads * moves_price (read_in k f 0) + writes * moves_price (write_in k f 0 0)) ≤ access_moves k burst reads writes + stray 2 k burst
 moves_accessed kind.Memory f true reads writes = omega arith
 moves_accessed kind.Memory f false reads writes = omega arith
 moves_accessed kind.Controller f true reads writes = omega arith
 moves_accessed kind.Controller f false reads writes = omega arith
 
-moves_field : (found : Option Field) (held : Bool) (o : Op) → field_cost moves_price o held found ≤ weight.moves_on found o
+pub moves_field : (found : Option Field) (held : Bool) (o : Op) → field_cost moves_price o held found ≤ weight.moves_on found o
 moves_field None held o = omega arith
 moves_field (Some f) held o =
     let lock = nothing (takes_lock f held) in
@@ -106,14 +106,14 @@ moves_field (Some f) held o =
     let plain = unburst 2 f.kind (nat_lt 1 (byte_count f)) in
     omega arith
 
-moves_op : (fields : List Field) (held : Bool) (o : Op) → op_cost moves_price fields held o ≤ op_moves fields o
+pub moves_op : (fields : List Field) (held : Bool) (o : Op) → op_cost moves_price fields held o ≤ op_moves fields o
 unfolding op_moves
 moves_op fields held (op.Read f) = moves_field (slice_get fields f) held (op.Read f)
 moves_op fields held (op.Write f v) = moves_field (slice_get fields f) held (op.Write f v)
 moves_op fields held (op.Add f v) = moves_field (slice_get fields f) held (op.Add f v)
 moves_op fields held _ = omega arith
 
-moves_from : (fields : List Field) (held : Bool) (ops : List Op) → ops_cost moves_price fields held ops ≤ sum_of (op_moves fields) ops
+pub moves_from : (fields : List Field) (held : Bool) (ops : List Op) → ops_cost moves_price fields held ops ≤ sum_of (op_moves fields) ops
 moves_from fields held [] = omega arith
 moves_from fields held (o ∷ ops) =
     let one = moves_op fields held o in
@@ -126,7 +126,7 @@ moves_within fields ops = let all = moves_from fields false ops in let same = su
 
 -- ---- prices at which accesses cost nothing
 
-record IsFreeOfFields (f : Act → ℕ) : Type 0 where
+pub record IsFreeOfFields (f : Act → ℕ) : Type 0 where
   pub lock : f act.Lock ≡ 0
   pub unlock : f act.Unlock ≡ 0
   pub be : f (act.Ask request.Be) ≡ 0
@@ -136,22 +136,22 @@ record IsFreeOfFields (f : Act → ℕ) : Type 0 where
   pub rd : (x : ℕ) → f (act.Ask (request.Rd x)) ≡ 0
   pub wr : (x v : ℕ) → f (act.Ask (request.Wr x v)) ≡ 0
 
-free_reads : (f : Act → ℕ) → IsFreeOfFields f → (k : RegionKind) (field : Field) → f (read_in k field 0) ≡ 0
+pub free_reads : (f : Act → ℕ) → IsFreeOfFields f → (k : RegionKind) (field : Field) → f (read_in k field 0) ≡ 0
 free_reads f free kind.Memory field = free.read _
 free_reads f free kind.Controller field = free.rd _
 
-free_writes : (f : Act → ℕ) → IsFreeOfFields f → (k : RegionKind) (field : Field) → f (write_in k field 0 0) ≡ 0
+pub free_writes : (f : Act → ℕ) → IsFreeOfFields f → (k : RegionKind) (field : Field) → f (write_in k field 0 0) ≡ 0
 free_writes f free kind.Memory field = free.write _ _
 free_writes f free kind.Controller field = free.wr _ _
 
-free_pair : (b : Bool) (x y : ℕ) → x ≡ 0 → y ≡ 0 → cond b (x + y) 0 ≡ 0
+pub free_pair : (b : Bool) (x y : ℕ) → x ≡ 0 → y ≡ 0 → cond b (x + y) 0 ≡ 0
 free_pair true x y none nothing = omega arith
 free_pair false x y none nothing = refl
 
-free_times : (n x : ℕ) → x ≡ 0 → n * x ≡ 0
+pub free_times : (n x : ℕ) → x ≡ 0 → n * x ≡ 0
 free_times n x none = let same : n * x ≡ n * 0 = ap (λ k. n * k) none in omega arith
 
-free_field : (f : Act → ℕ) → IsFreeOfFields f → (o : Op) (held : Bool) (found : Option Field) → field_cost f o held found ≡ 0
+pub free_field : (f : Act → ℕ) → IsFreeOfFields f → (o : Op) (held : Bool) (found : Option Field) → field_cost f o held found ≡ 0
 free_field f free o held None = refl
 free_field f free o held (Some field) =
     let lock = free_pair (takes_lock field held) (f act.Lock) (f act.Unlock) free.lock free.unlock in
@@ -162,10 +162,10 @@ free_field f free o held (Some field) =
 
 -- ---- runs that a script can bring
 
-free_lifts : (n : Event) → IsFreeOfFields (lifts n)
+pub free_lifts : (n : Event) → IsFreeOfFields (lifts n)
 free_lifts n = record { lock = refl; unlock = refl; be = refl; bd = refl; read = λ c. refl; write = λ c v. refl; rd = λ x. refl; wr = λ x v. refl }
 
-lifts_op : (n : Event) (fields : List Field) (held : Bool) (o : Op) → op_cost (lifts n) fields held o ≤ counted (tally.Runs n) o
+pub lifts_op : (n : Event) (fields : List Field) (held : Bool) (o : Op) → op_cost (lifts n) fields held o ≤ counted (tally.Runs n) o
 lifts_op n fields held (op.Read f) = let none = free_field (lifts n) (free_lifts n) (op.Read f) held (slice_get fields f) in omega arith
 lifts_op n fields held (op.Write f v) = let none = free_field (lifts n) (free_lifts n) (op.Write f v) held (slice_get fields f) in omega arith
 lifts_op n fields held (op.Add f v) = let none = free_field (lifts n) (free_lifts n) (op.Add f v) held (slice_get fields f) in omega arith
@@ -173,7 +173,7 @@ lifts_op n fields held (op.Raise e) = omega arith
 lifts_op n fields held (op.Assert e) = omega arith
 lifts_op n fields held _ = omega arith
 
-lifts_from : (n : Event) (fields : List Field) (held : Bool) (ops : List Op) → ops_cost (lifts n) fields held ops ≤ sum_of (counted (tally.Runs n)) ops
+pub lifts_from : (n : Event) (fields : List Field) (held : Bool) (ops : List Op) → ops_cost (lifts n) fields held ops ≤ sum_of (counted (tally.Runs n)) ops
 lifts_from n fields held [] = omega arith
 lifts_from n fields held (o ∷ ops) =
     let one = lifts_op n fields held o in
@@ -190,10 +190,10 @@ abbrev pub push_of : (ℕ → ℕ) → Op → ℕ
 push_of g (op.Push q) = g q
 push_of g _ = 0
 
-free_pushes : (g : ℕ → ℕ) → IsFreeOfFields (pushes_price g)
+pub free_pushes : (g : ℕ → ℕ) → IsFreeOfFields (pushes_price g)
 free_pushes g = record { lock = refl; unlock = refl; be = refl; bd = refl; read = λ c. refl; write = λ c v. refl; rd = λ x. refl; wr = λ x v. refl }
 
-pushes_op : (g : ℕ → ℕ) (fields : List Field) (held : Bool) (o : Op) → op_cost (pushes_price g) fields held o ≤ push_of g o
+pub pushes_op : (g : ℕ → ℕ) (fields : List Field) (held : Bool) (o : Op) → op_cost (pushes_price g) fields held o ≤ push_of g o
 pushes_op g fields held (op.Read f) = let none = free_field (pushes_price g) (free_pushes g) (op.Read f) held (slice_get fields f) in omega arith
 pushes_op g fields held (op.Write f v) = let none = free_field (pushes_price g) (free_pushes g) (op.Write f v) held (slice_get fields f) in omega arith
 pushes_op g fields held (op.Add f v) = let none = free_field (pushes_price g) (free_pushes g) (op.Add f v) held (slice_get fields f) in omega arith
@@ -209,10 +209,10 @@ pushes_from g fields held (o ∷ ops) =
 
 -- ---- no script asks for a query
 
-free_queries : IsFreeOfFields queries_price
+pub free_queries : IsFreeOfFields queries_price
 free_queries = record { lock = refl; unlock = refl; be = refl; bd = refl; read = λ c. refl; write = λ c v. refl; rd = λ x. refl; wr = λ x v. refl }
 
-queries_op : (fields : List Field) (held : Bool) (o : Op) → op_cost queries_price fields held o ≡ 0
+pub queries_op : (fields : List Field) (held : Bool) (o : Op) → op_cost queries_price fields held o ≡ 0
 queries_op fields held (op.Read f) = free_field queries_price free_queries (op.Read f) held (slice_get fields f)
 queries_op fields held (op.Write f v) = free_field queries_price free_queries (op.Write f v) held (slice_get fields f)
 queries_op fields held (op.Add f v) = free_field queries_price free_queries (op.Add f v) held (slice_get fields f)

@@ -75,35 +75,35 @@ Staged past a = At (is_seeker past a) (is_someone a (owner past)) (stage a past)
 
 -- ---- where each deed starts
 
-at_seek : (k w : Bool) (st : Stage) (o d b : Bool) → k ≡ false → At k w st o d b → st ≡ Away
+pub at_seek : (k w : Bool) (st : Stage) (o d b : Bool) → k ≡ false → At k w st o d b → st ≡ Away
 at_seek k w Away o d b is_o at = refl
 at_seek k w Sought o d b is_o at = let k_is = at.0 in cc
 at_seek k w Busied o d b is_o at = let k_is = at.0 in cc
 at_seek k w Owned o d b is_o at = let k_is = at.0 in cc
 at_seek k w Disowned o d b is_o at = let k_is = at.0 in cc
 
-at_try : (k w : Bool) (st : Stage) (o d b : Bool) → k ≡ true → o ≡ false → b ≡ false → At k w st o d b → st ≡ Sought
+pub at_try : (k w : Bool) (st : Stage) (o d b : Bool) → k ≡ true → o ≡ false → b ≡ false → At k w st o d b → st ≡ Sought
 at_try k w Away o d b is_k is_o nob at = let k_is = at.0 in cc
 at_try k w Sought o d b is_k is_o nob at = refl
 at_try k w Busied o d b is_k is_o nob at = let b_is = at.2.2 in cc
 at_try k w Owned o d b is_k is_o nob at = let o_is = at.2.0 in cc
 at_try k w Disowned o d b is_k is_o nob at = let o_is = at.2.0 in cc
 
-at_woken : (k w : Bool) (st : Stage) (o d b : Bool) → k ≡ true → o ≡ false → b ≡ true → At k w st o d b → st ≡ Busied
+pub at_woken : (k w : Bool) (st : Stage) (o d b : Bool) → k ≡ true → o ≡ false → b ≡ true → At k w st o d b → st ≡ Busied
 at_woken k w Away o d b is_k is_o isb at = let k_is = at.0 in cc
 at_woken k w Sought o d b is_k is_o isb at = let b_is = at.2.2 in cc
 at_woken k w Busied o d b is_k is_o isb at = refl
 at_woken k w Owned o d b is_k is_o isb at = let o_is = at.2.0 in cc
 at_woken k w Disowned o d b is_k is_o isb at = let o_is = at.2.0 in cc
 
-at_disown : (k w : Bool) (st : Stage) (o d b : Bool) → w ≡ true → At k w st o d b → st ≡ Owned
+pub at_disown : (k w : Bool) (st : Stage) (o d b : Bool) → w ≡ true → At k w st o d b → st ≡ Owned
 at_disown k w Away o d b is_k at = let w_is = at.1 in cc
 at_disown k w Sought o d b is_k at = let w_is = at.1 in cc
 at_disown k w Busied o d b is_k at = let w_is = at.1 in cc
 at_disown k w Owned o d b is_k at = refl
 at_disown k w Disowned o d b is_k at = let w_is = at.1 in cc
 
-at_leave : (k w : Bool) (st : Stage) (o d b : Bool) → k ≡ true → d ≡ true → At k w st o d b → st ≡ Disowned
+pub at_leave : (k w : Bool) (st : Stage) (o d b : Bool) → k ≡ true → d ≡ true → At k w st o d b → st ≡ Disowned
 at_leave k w Away o d b is_k quit at = let k_is = at.0 in cc
 at_leave k w Sought o d b is_k quit at = let d_is = at.2.1 in cc
 at_leave k w Busied o d b is_k quit at = let d_is = at.2.1 in cc
@@ -119,11 +119,11 @@ Follows deed.Disown st = st ≡ Owned
 Follows (deed.Leave s) st = st ≡ Disowned
 Follows _ st = Unit {0}
 
-unsought-seeks : (past : List Entry) (a : Actor) (s : Option Side) → unsought past s ≡ true → seeks past a s ≡ false
+pub unsought-seeks : (past : List Entry) (a : Actor) (s : Option Side) → unsought past s ≡ true → seeks past a s ≡ false
 unsought-seeks past a None none = refl
 unsought-seeks past a (Some s) none = none_someone a (seeker s past) none
 
-quits : (b l : Bool) → l ≡ true → cond b l (not l) ≡ true → b ≡ true
+pub quits : (b l : Bool) → l ≡ true → cond b l (not l) ≡ true → b ≡ true
 quits true l is h = refl
 quits false true is h = cc
 quits false false is h = cc
@@ -135,7 +135,7 @@ quit_by m past a s allowed =
     let quit = and_parts (runs_scripts m a && is_seeker past a) (has_disowned a past) (quits (has_quit m past a) (is_leave (deed.Leave s)) refl h.1.0) in
     ((and_parts (runs_scripts m a) (is_seeker past a) quit.0).1, quit.1)
 
-trying_parts : (past : List Entry) (a : Actor) → is_trying past a ≡ true → (is_seeker past a ≡ true) × (has_owned a past ≡ false)
+pub trying_parts : (past : List Entry) (a : Actor) → is_trying past a ≡ true → (is_seeker past a ≡ true) × (has_owned a past ≡ false)
 trying_parts past a h = let p = and_parts (is_seeker past a) (not (has_owned a past)) h in (p.0, not-true (has_owned a past) p.1)
 
 pub follows : (m : MachineData) (past : List Entry) (a : Actor) (d : Deed) → Allowed m past (record { actor = a; deed = d }) → Staged past a → Follows d (stage a past)
@@ -162,28 +162,28 @@ follows m past a _ allowed at = tt
 
 -- ---- an entry of its own
 
-abbrev entry : Actor → Deed → Entry
+abbrev pub entry : Actor → Deed → Entry
 entry a d = record { actor = a; deed = d }
 
-own_seek : (past : List Entry) (a : Actor) (s : Option Side) → side_of a ≡ s → unsought past s ≡ true → seeks (entry a deed.Seek ∷ past) a s ≡ true
+pub own_seek : (past : List Entry) (a : Actor) (s : Option Side) → side_of a ≡ s → unsought past s ≡ true → seeks (entry a deed.Seek ∷ past) a s ≡ true
 own_seek past a None is none = cc
 own_seek past a (Some side.Os) is none = rw is (same_self a)
 own_seek past a (Some side.Firmware) is none = rw is (same_self a)
 
-own_leave : (past : List Entry) (a : Actor) (x : Bool) (s : Option Side) → side_of a ≡ s → seeks (entry a (deed.Leave x) ∷ past) a s ≡ false
+pub own_leave : (past : List Entry) (a : Actor) (x : Bool) (s : Option Side) → side_of a ≡ s → seeks (entry a (deed.Leave x) ∷ past) a s ≡ false
 own_leave past a x None is = refl
 own_leave past a x (Some side.Os) is = rw is refl
 own_leave past a x (Some side.Firmware) is = rw is refl
 
 -- an entry that changes no seeker
-seeks-quiet : (past : List Entry) (e : Entry) (a : Actor) (s : Option Side) → ((t : Side) → seeker t (e ∷ past) ≡ seeker t past) → seeks (e ∷ past) a s ≡ seeks past a s
+pub seeks-quiet : (past : List Entry) (e : Entry) (a : Actor) (s : Option Side) → ((t : Side) → seeker t (e ∷ past) ≡ seeker t past) → seeks (e ∷ past) a s ≡ seeks past a s
 seeks-quiet past e a None same = refl
 seeks-quiet past e a (Some t) same = ap (is_someone a) (same t)
 
-abbrev StagedAfter : List Entry → Actor → Deed → Type 0
+abbrev pub StagedAfter : List Entry → Actor → Deed → Type 0
 StagedAfter past a d = At (is_seeker (entry a d ∷ past) a) (is_someone a (owner (entry a d ∷ past))) (stage_after d (stage a past)) (owned_after d (has_owned a past)) (disowned_after d (has_disowned a past)) (busy_after d (is_busy a past))
 
-own_step : (m : MachineData) (past : List Entry) (a : Actor) (d : Deed) → Allowed m past (entry a d) → Follows d (stage a past) → Staged past a → StagedAfter past a d
+pub own_step : (m : MachineData) (past : List Entry) (a : Actor) (d : Deed) → Allowed m past (entry a d) → Follows d (stage a past) → Staged past a → StagedAfter past a d
 own_step m past a deed.Seek allowed f at =
     let h = hold m past a deed.Seek allowed in
     (own_seek past a (side_of a) refl h.1.1.1.0, at.1 ∙ ap is_owned f, (refl, refl, refl))
@@ -206,12 +206,12 @@ own_step m past a deed.Disown allowed f at =
 own_step m past a (deed.Leave s) allowed f at = (own_leave past a s (side_of a) refl, at.1 ∙ ap is_owned f, tt)
 own_step m past a d allowed f at = (seeks-quiet past (entry a d) a (side_of a) (λ t. refl) ∙ at.0, at.1, at.2)
 
-own_whole : (past : List Entry) (a : Actor) (d : Deed) → StagedAfter past a d → Staged (entry a d ∷ past) a
+pub own_whole : (past : List Entry) (a : Actor) (d : Deed) → StagedAfter past a d → Staged (entry a d ∷ past) a
 own_whole past a d after = rw (same_self a) after
 
 -- ---- another's entry
 
-other_seek : (past : List Entry) (a b : Actor) (s t : Option Side) → side_of b ≡ t → same_actor a b ≡ false → unsought past t ≡ true → seeks (entry b deed.Seek ∷ past) a s ≡ seeks past a s
+pub other_seek : (past : List Entry) (a b : Actor) (s t : Option Side) → side_of b ≡ t → same_actor a b ≡ false → unsought past t ≡ true → seeks (entry b deed.Seek ∷ past) a s ≡ seeks past a s
 other_seek past a b None t is other none = refl
 other_seek past a b (Some s) None is other none = cc
 other_seek past a b (Some side.Os) (Some side.Os) is other none = rw is (other ∙ sym (none_someone a (seeker side.Os past) none))
@@ -219,7 +219,7 @@ other_seek past a b (Some side.Firmware) (Some side.Firmware) is other none = rw
 other_seek past a b (Some side.Os) (Some side.Firmware) is other none = rw is refl
 other_seek past a b (Some side.Firmware) (Some side.Os) is other none = rw is refl
 
-other_leave : (past : List Entry) (a b : Actor) (x : Bool) (s t : Option Side) → side_of b ≡ t → same_actor a b ≡ false → seeks past b t ≡ true → seeks (entry b (deed.Leave x) ∷ past) a s ≡ seeks past a s
+pub other_leave : (past : List Entry) (a b : Actor) (x : Bool) (s t : Option Side) → side_of b ≡ t → same_actor a b ≡ false → seeks past b t ≡ true → seeks (entry b (deed.Leave x) ∷ past) a s ≡ seeks past a s
 other_leave past a b x None t is other its = refl
 other_leave past a b x (Some s) None is other its = cc
 other_leave past a b x (Some side.Os) (Some side.Os) is other its = rw is (sym (other_someone a b (seeker side.Os past) other its))
@@ -227,10 +227,10 @@ other_leave past a b x (Some side.Firmware) (Some side.Firmware) is other its = 
 other_leave past a b x (Some side.Os) (Some side.Firmware) is other its = rw is refl
 other_leave past a b x (Some side.Firmware) (Some side.Os) is other its = rw is refl
 
-abbrev StagedBeside : List Entry → Actor → Entry → Type 0
+abbrev pub StagedBeside : List Entry → Actor → Entry → Type 0
 StagedBeside past a e = At (is_seeker (e ∷ past) a) (is_someone a (owner (e ∷ past))) (stage a past) (has_owned a past) (has_disowned a past) (is_busy a past)
 
-other_step : (m : MachineData) (past : List Entry) (a b : Actor) (d : Deed) → Allowed m past (entry b d) → same_actor a b ≡ false → Staged past a → StagedBeside past a (entry b d)
+pub other_step : (m : MachineData) (past : List Entry) (a b : Actor) (d : Deed) → Allowed m past (entry b d) → same_actor a b ≡ false → Staged past a → StagedBeside past a (entry b d)
 other_step m past a b deed.Seek allowed other at =
     let h = hold m past b deed.Seek allowed in
     (other_seek past a b (side_of a) (side_of b) refl other h.1.1.1.0 ∙ at.0, at.1, at.2)
@@ -245,7 +245,7 @@ other_step m past a b deed.Disown allowed other at =
     (seeks-quiet past (entry b deed.Disown) a (side_of a) (λ t. refl) ∙ at.0, sym (other_someone a b (owner past) other h.1.1.0) ∙ at.1, at.2)
 other_step m past a b d allowed other at = (seeks-quiet past (entry b d) a (side_of a) (λ t. refl) ∙ at.0, at.1, at.2)
 
-other_whole : (past : List Entry) (a : Actor) (e : Entry) → same_actor a e.actor ≡ false → StagedBeside past a e → Staged (e ∷ past) a
+pub other_whole : (past : List Entry) (a : Actor) (e : Entry) → same_actor a e.actor ≡ false → StagedBeside past a e → Staged (e ∷ past) a
 other_whole past a e other after = rw other after
 
 pub staged : (m : MachineData) (past : List Entry) (a : Actor) → LegalPast m past → Staged past a
@@ -297,10 +297,10 @@ left Busied = 3
 left Owned = 2
 left Disowned = 1
 
-abbrev allows : Deed → ℕ
+abbrev pub allows : Deed → ℕ
 allows d = 4 * is_seek d + is_woken d
 
-own_count : (d : Deed) (st : Stage) → Follows d st → is_episode d + left (stage_after d st) ≤ allows d + left st
+pub own_count : (d : Deed) (st : Stage) → Follows d st → is_episode d + left (stage_after d st) ≤ allows d + left st
 own_count deed.Seek st f = omega arith
 own_count deed.Busy st f = let at : left st ≡ 4 = ap left f in omega arith
 own_count deed.Woken st f = let at : left st ≡ 3 = ap left f in omega arith
@@ -317,10 +317,10 @@ episodes m a past legal =
     (λ other. omega arith))
     past legal
 
-abbrev one_active : Stage → ℕ
+abbrev pub one_active : Stage → ℕ
 one_active st = if is_active st then 1 else 0
 
-leave_count : (d : Deed) (st : Stage) → Follows d st → is_left d + one_active (stage_after d st) ≤ is_seek d + one_active st
+pub leave_count : (d : Deed) (st : Stage) → Follows d st → is_left d + one_active (stage_after d st) ≤ is_seek d + one_active st
 leave_count deed.Seek st f = omega arith
 leave_count deed.Busy st f = let at : one_active st ≡ 1 = ap one_active f in omega arith
 leave_count deed.Woken st f = let at : one_active st ≡ 1 = ap one_active f in omega arith

@@ -38,63 +38,63 @@ use Rattle.machine_history.proofs.Wires.{begins_price, is_qr, moves_in, query_mo
 
 -- ---- what scripts are worth at each price
 
-abbrev no_worth : List Op → ℕ
+abbrev pub no_worth : List Op → ℕ
 no_worth ops = 0
 
-covers_entries : (m : MachineData) → Covers m entries_price (script_size m.fields)
+pub covers_entries : (m : MachineData) → Covers m entries_price (script_size m.fields)
 unfolding script_size
 covers_entries m = record { uniform = uniform_entries; within = entries_within m.fields; empty = refl }
 
-covers_moves : (m : MachineData) → Covers m moves_price (script_moves m.fields)
+pub covers_moves : (m : MachineData) → Covers m moves_price (script_moves m.fields)
 unfolding script_moves
 covers_moves m = record { uniform = uniform_moves; within = moves_within m.fields; empty = refl }
 
-covers_queries : (m : MachineData) → Covers m queries_price no_worth
+pub covers_queries : (m : MachineData) → Covers m queries_price no_worth
 covers_queries m = record { uniform = uniform_queries; within = queries_none m.fields false; empty = refl }
 
-covers_lifts : (m : MachineData) (n : Event) → Covers m (lifts n) (in_script (tally.Runs n))
+pub covers_lifts : (m : MachineData) (n : Event) → Covers m (lifts n) (in_script (tally.Runs n))
 unfolding in_script
 covers_lifts m n = record { uniform = uniform_lifts n; within = lifts_within n m.fields; empty = refl }
 
-covers_pushes : (m : MachineData) (g : ℕ → ℕ) → Covers m (pushes_price g) (sum_of (push_of g))
+pub covers_pushes : (m : MachineData) (g : ℕ → ℕ) → Covers m (pushes_price g) (sum_of (push_of g))
 covers_pushes m g = record { uniform = uniform_pushes g; within = pushes_from g m.fields false; empty = refl }
 
 -- ---- the weight's sums, written plainly
 
-size_empty : (m : MachineData) → script_size m.fields [] ≡ 0
+pub size_empty : (m : MachineData) → script_size m.fields [] ≡ 0
 size_empty m = (covers_entries m).empty
 
-moves_empty : (m : MachineData) → script_moves m.fields [] ≡ 0
+pub moves_empty : (m : MachineData) → script_moves m.fields [] ≡ 0
 moves_empty m = (covers_moves m).empty
 
-firmware_size-is : (m : MachineData) → firmware_size m ≡ sum_of (script_size m.fields) m.firmware
+pub firmware_size-is : (m : MachineData) → firmware_size m ≡ sum_of (script_size m.fields) m.firmware
 unfolding firmware_size
 firmware_size-is m = sums-same (script_size m.fields) m.firmware
 
-firmware_moves-is : (m : MachineData) → firmware_moves m ≡ sum_of (script_moves m.fields) m.firmware
+pub firmware_moves-is : (m : MachineData) → firmware_moves m ≡ sum_of (script_moves m.fields) m.firmware
 unfolding firmware_moves
 firmware_moves-is m = sums-same (script_moves m.fields) m.firmware
 
-events_size-is : (m : MachineData) → events_size m ≡ sum_of (λ (l : ListedEvent). runs_of m l.listed.event * (3 + script_size m.fields l.script)) m.events
+pub events_size-is : (m : MachineData) → events_size m ≡ sum_of (λ (l : ListedEvent). runs_of m l.listed.event * (3 + script_size m.fields l.script)) m.events
 unfolding events_size
 events_size-is m = sums-same (event_size m) m.events
 
-events_moves-is : (m : MachineData) → events_moves m ≡ sum_of (λ (l : ListedEvent). runs_of m l.listed.event * script_moves m.fields l.script) m.events
+pub events_moves-is : (m : MachineData) → events_moves m ≡ sum_of (λ (l : ListedEvent). runs_of m l.listed.event * script_moves m.fields l.script) m.events
 unfolding events_moves
 events_moves-is m = sums-same (event_moves m) m.events
 
-queries_size-is : (m : MachineData) → queries_size m ≡ sum_of (λ (h : Query). in_firmware (tally.Code h.code) m.firmware * script_size m.fields h.script) (handlers_in m)
+pub queries_size-is : (m : MachineData) → queries_size m ≡ sum_of (λ (h : Query). in_firmware (tally.Code h.code) m.firmware * script_size m.fields h.script) (handlers_in m)
 unfolding queries_size
 queries_size-is m = sums-same (query_size m) (handlers_in m)
 
-queries_moves-is : (m : MachineData) → queries_moves m ≡ sum_of (λ (h : Query). in_firmware (tally.Code h.code) m.firmware * script_moves m.fields h.script) (handlers_in m)
+pub queries_moves-is : (m : MachineData) → queries_moves m ≡ sum_of (λ (h : Query). in_firmware (tally.Code h.code) m.firmware * script_moves m.fields h.script) (handlers_in m)
 unfolding queries_moves
 queries_moves-is m = sums-same (query_moves m) (handlers_in m)
 
 -- ---- claims of one event
 
 -- what raises an event
-raises : (m : MachineData) (n : Event) → IsMachine m → (past : List Entry) → LegalPast m past → total (charged (lifts n)) past + total (by_deed (latch_in n)) past ≤ runs_of m n
+pub raises : (m : MachineData) (n : Event) → IsMachine m → (past : List Entry) → LegalPast m past → total (charged (lifts n)) past + total (by_deed (latch_in n)) past ≤ runs_of m n
 raises m n ok past legal =
     let scripts = firmware_charged (lifts n) (in_script (tally.Runs n)) m ok (covers_lifts m n) (lifts_by m n) past legal in
     let is = in_firmware-is (tally.Runs n) m.firmware in
@@ -102,15 +102,15 @@ raises m n ok past legal =
     let pulses = pulses-is m n in
     omega arith
 
-plain_sets : (m : MachineData) (n : Event) → is_own m n ≡ false → is_gbl n ≡ false → (past : List Entry) → total (sets_in m n) past ≡ total (charged (lifts n)) past + total (by_deed (latch_in n)) past
+pub plain_sets : (m : MachineData) (n : Event) → is_own m n ≡ false → is_gbl n ≡ false → (past : List Entry) → total (sets_in m n) past ≡ total (charged (lifts n)) past + total (by_deed (latch_in n)) past
 plain_sets m n not_own not_gbl [] = refl
 plain_sets m n not_own not_gbl (e ∷ past) = let before = plain_sets m n not_own not_gbl past in rw (not_own, not_gbl) (omega arith)
 
-own_sets : (m : MachineData) (n : Event) → is_own m n ≡ true → is_gbl n ≡ false → (past : List Entry) → total (sets_in m n) past ≡ (total (charged (lifts n)) past + total (by_deed (latch_in n)) past) + (total (by_deed is_push) past + (total moves_in past + total query_moves_in past))
+pub own_sets : (m : MachineData) (n : Event) → is_own m n ≡ true → is_gbl n ≡ false → (past : List Entry) → total (sets_in m n) past ≡ (total (charged (lifts n)) past + total (by_deed (latch_in n)) past) + (total (by_deed is_push) past + (total moves_in past + total query_moves_in past))
 own_sets m n own not_gbl [] = refl
 own_sets m n own not_gbl (e ∷ past) = let before = own_sets m n own not_gbl past in rw (own, not_gbl) (omega arith)
 
-claims_reach : (m : MachineData) (n : Event) → IsMachine m → is_own m n ≡ false → is_gbl n ≡ false → (past : List Entry) → LegalPast m past → total (takes m n) past ≤ runs_of m n
+pub claims_reach : (m : MachineData) (n : Event) → IsMachine m → is_own m n ≡ false → is_gbl n ≡ false → (past : List Entry) → LegalPast m past → total (takes m n) past ≤ runs_of m n
 claims_reach m n ok not_own not_gbl past legal =
     let claims = claims_within m n past legal in
     let sets = plain_sets m n not_own not_gbl past in
@@ -118,25 +118,25 @@ claims_reach m n ok not_own not_gbl past legal =
     omega arith
 
 -- the runs of listed events, each worth g
-bound_runs : (m : MachineData) (g : ListedEvent → ℕ) → IsMachine m → (past : List Entry) → LegalPast m past → sum_of (λ (l : ListedEvent). total (takes m l.listed.event) past * g l) m.events ≤ sum_of (λ (l : ListedEvent). runs_of m l.listed.event * g l) m.events
+pub bound_runs : (m : MachineData) (g : ListedEvent → ℕ) → IsMachine m → (past : List Entry) → LegalPast m past → sum_of (λ (l : ListedEvent). total (takes m l.listed.event) past * g l) m.events ≤ sum_of (λ (l : ListedEvent). runs_of m l.listed.event * g l) m.events
 bound_runs m g ok past legal =
     sum-each (IsListed m) (λ (l : ListedEvent). total (takes m l.listed.event) past * g l) (λ (l : ListedEvent). runs_of m l.listed.event * g l) m.events (listed_each m ok)
     (λ l kept. mul-le-mul_right (g l) (claims_reach m l.listed.event ok (listed_own m l kept) kept.lock past legal))
 
 -- ---- every claim is of an event that the machine knows
 
-abbrev ctl_takes : MachineData → Option Event → Count
+abbrev pub ctl_takes : MachineData → Option Event → Count
 ctl_takes m None past e = 0
 ctl_takes m (Some n) past e = takes m n past e
 
-ctl_claim : (m : MachineData) (past : List Entry) (a : Actor) (n : Event) (o : Option Event) → names o n ≡ true → 1 ≤ ctl_takes m o past (record { actor = a; deed = deed.Claim n })
+pub ctl_claim : (m : MachineData) (past : List Entry) (a : Actor) (n : Event) (o : Option Event) → names o n ≡ true → 1 ≤ ctl_takes m o past (record { actor = a; deed = deed.Claim n })
 ctl_claim m past a n None is = cc
 ctl_claim m past a n (Some x) is = let same : one (same_event n x) ≡ 1 = ap one (same_event-swap n x ∙ is) in omega arith
 
-abbrev KnownClaim : MachineData → List Entry → Entry → Type 0
+abbrev pub KnownClaim : MachineData → List Entry → Entry → Type 0
 KnownClaim m past e = claim_of e.deed ≤ listed_part (λ l. 1) m m.events past e + (takes m gbl past e + ctl_takes m (own_event m) past e)
 
-known_claim : (m : MachineData) (past : List Entry) (a : Actor) (n : Event) → IsMachine m → LegalPast m (record { actor = a; deed = deed.Claim n } ∷ past) → KnownClaim m past (record { actor = a; deed = deed.Claim n })
+pub known_claim : (m : MachineData) (past : List Entry) (a : Actor) (n : Event) → IsMachine m → LegalPast m (record { actor = a; deed = deed.Claim n } ∷ past) → KnownClaim m past (record { actor = a; deed = deed.Claim n })
 known_claim m past a n ok legal = elim (cases_Bool (lists m n)) [
   | inl listed ↦ (let most = any_worth (λ ops. 1) n m.events (lists_any m n listed) in omega arith)
   | inr unlisted ↦ elim (cases_Bool (is_gbl n)) [
@@ -152,11 +152,11 @@ known_claim m past a n ok legal = elim (cases_Bool (lists m n)) [
   ]
 ]
 
-known_step : (m : MachineData) (past : List Entry) (a : Actor) (d : Deed) → IsMachine m → LegalPast m (record { actor = a; deed = d } ∷ past) → KnownClaim m past (record { actor = a; deed = d })
+pub known_step : (m : MachineData) (past : List Entry) (a : Actor) (d : Deed) → IsMachine m → LegalPast m (record { actor = a; deed = d } ∷ past) → KnownClaim m past (record { actor = a; deed = d })
 known_step m past a (deed.Claim n) ok legal = known_claim m past a n ok legal
 known_step m past a _ ok legal = omega arith
 
-all_claims : (m : MachineData) → IsMachine m → (past : List Entry) → LegalPast m past → total (by_deed claim_of) past ≤ total (listed_part (λ l. 1) m m.events) past + (total (takes m gbl) past + total (ctl_takes m (own_event m)) past)
+pub all_claims : (m : MachineData) → IsMachine m → (past : List Entry) → LegalPast m past → total (by_deed claim_of) past ≤ total (listed_part (λ l. 1) m m.events) past + (total (takes m gbl) past + total (ctl_takes m (own_event m)) past)
 all_claims m ok past legal =
     let each = total-le m (by_deed claim_of) (λ p e. listed_part (λ l. 1) m m.events p e + (takes m gbl p e + ctl_takes m (own_event m) p e)) (λ p e lp allowed. known_step m p e.actor e.deed ok (allowed, lp)) past legal in
     let split = total-plus (listed_part (λ l. 1) m m.events) (λ p e. takes m gbl p e + ctl_takes m (own_event m) p e) past in
@@ -165,27 +165,27 @@ all_claims m ok past legal =
 
 -- ---- code jobs
 
-codes_within : (g : ℕ → ℕ) (m : MachineData) → IsMachine m → (past : List Entry) → LegalPast m past → total (code_jobs_in g m) past ≤ sum_of (sum_of (push_of g)) m.firmware
+pub codes_within : (g : ℕ → ℕ) (m : MachineData) → IsMachine m → (past : List Entry) → LegalPast m past → total (code_jobs_in g m) past ≤ sum_of (sum_of (push_of g)) m.firmware
 codes_within g m ok past legal =
     let runs = few_codes g m past legal in
     let scripts = firmware_charged (pushes_price g) (sum_of (push_of g)) m ok (covers_pushes m g) (pushes_by m g) past legal in
     omega arith
 
-code_sizes : (m : MachineData) → IsMachine m → (past : List Entry) → LegalPast m past → total (code_jobs_in (code_worth 2 (script_size m.fields) m) m) past ≤ 2 * pushes m + queries_size m
+pub code_sizes : (m : MachineData) → IsMachine m → (past : List Entry) → LegalPast m past → total (code_jobs_in (code_worth 2 (script_size m.fields) m) m) past ≤ 2 * pushes m + queries_size m
 code_sizes m ok past legal =
     let runs = codes_within (code_worth 2 (script_size m.fields) m) m ok past legal in
     let handled = all_handled 2 (script_size m.fields) (handlers_in m) (size_empty m) m.firmware in
     let is = queries_size-is m in
     omega arith
 
-code_moves : (m : MachineData) → IsMachine m → (past : List Entry) → LegalPast m past → total (code_jobs_in (code_worth 0 (script_moves m.fields) m) m) past ≤ queries_moves m
+pub code_moves : (m : MachineData) → IsMachine m → (past : List Entry) → LegalPast m past → total (code_jobs_in (code_worth 0 (script_moves m.fields) m) m) past ≤ queries_moves m
 code_moves m ok past legal =
     let runs = codes_within (code_worth 0 (script_moves m.fields) m) m ok past legal in
     let handled = all_handled 0 (script_moves m.fields) (handlers_in m) (moves_empty m) m.firmware in
     let is = queries_moves-is m in
     omega arith
 
-no_code_worth : (m : MachineData) (past : List Entry) → total (code_jobs_in (code_worth 0 no_worth m) m) past ≤ 0
+pub no_code_worth : (m : MachineData) (past : List Entry) → total (code_jobs_in (code_worth 0 no_worth m) m) past ≤ 0
 no_code_worth m past =
     let each = total-le_all (code_jobs_in (code_worth 0 no_worth m) m) (λ p e. 0) (λ p e. none (made m p e)) past in
     let nothing = total-zero past in
@@ -199,28 +199,28 @@ no_code_worth m past =
 
 -- ---- moves
 
-started_zero : (c : List Op → ℕ) (q : ℕ) (m : MachineData) (past : List Entry) → total (started (job_worth c q m) m) past ≤ total (started (worth 0 c q m) m) past
+pub started_zero : (c : List Op → ℕ) (q : ℕ) (m : MachineData) (past : List Entry) → total (started (job_worth c q m) m) past ≤ total (started (worth 0 c q m) m) past
 started_zero c q m past = total-le_all (started (job_worth c q m) m) (started (worth 0 c q m) m) (λ p e. same p e.deed) past
   where
     same : (p : List Entry) (d : Deed) → start_worth (job_worth c q m) (jobs m p) d ≤ start_worth (worth 0 c q m) (jobs m p) d
     same p (deed.Start j) = omega arith
     same p _ = omega arith
 
-moves_charge : (past : List Entry) → total (by_deed (begins_price request_moves)) past ≤ total (charged moves_price) past
+pub moves_charge : (past : List Entry) → total (by_deed (begins_price request_moves)) past ≤ total (charged moves_price) past
 moves_charge past = total-le_all (by_deed (begins_price request_moves)) (charged moves_price) (λ p e. same e.deed) past
   where
     same : (d : Deed) → begins_price request_moves d ≤ charge moves_price d
     same (deed.Begin r) = omega arith
     same _ = omega arith
 
-queries_charge : (past : List Entry) → total (by_deed (begins_price is_qr)) past ≤ total (charged queries_price) past
+pub queries_charge : (past : List Entry) → total (by_deed (begins_price is_qr)) past ≤ total (charged queries_price) past
 queries_charge past = total-le_all (by_deed (begins_price is_qr)) (charged queries_price) (λ p e. same e.deed) past
   where
     same : (d : Deed) → begins_price is_qr d ≤ charge queries_price d
     same (deed.Begin r) = omega arith
     same _ = omega arith
 
-moves_bound : (m : MachineData) → IsMachine m → (past : List Entry) → LegalPast m past → total moves_in past ≤ all_moves m
+pub moves_bound : (m : MachineData) → IsMachine m → (past : List Entry) → LegalPast m past → total moves_in past ≤ all_moves m
 moves_bound m ok past legal =
     let wire = wire_moves m past legal in
     let begins = moves_charge past in
@@ -245,10 +245,10 @@ moves_bound m ok past legal =
 
 -- ---- queries
 
-asked : MachineData → ℕ
+pub asked : MachineData → ℕ
 asked m = queries_asked (pushes m) (all_moves m) (own_calls m (own_event m))
 
-no_query : (m : MachineData) (past : List Entry) (a : Actor) (d : Deed) → ((n : Event) → (is_own m n && not (is_empty (codes past))) ≡ false) → queries_in m past (record { actor = a; deed = d }) ≤ 0
+pub no_query : (m : MachineData) (past : List Entry) (a : Actor) (d : Deed) → ((n : Event) → (is_own m n && not (is_empty (codes past))) ≡ false) → queries_in m past (record { actor = a; deed = d }) ≤ 0
 no_query m past a (deed.Claim n) none = at (lists m n) (is_own m n && not (is_empty (codes past))) (none n)
   where
     at : (x y : Bool) → y ≡ false → is_query_job (if x then Some (job.Event n) else if y then Some job.Query else None) ≤ 0
@@ -265,7 +265,7 @@ no_query m past a (deed.Take v) none = at (open_of past) v
     at o (Some q) = of_code _ q
 no_query m past a _ none = omega arith
 
-few_waiting : (m : MachineData) → IsMachine m → (past : List Entry) → LegalPast m past → sum_of (λ (q : ℕ). 1) (codes past) ≤ pushes m
+pub few_waiting : (m : MachineData) → IsMachine m → (past : List Entry) → LegalPast m past → sum_of (λ (q : ℕ). 1) (codes past) ≤ pushes m
 few_waiting m ok past legal =
     let runs = few_codes (λ q. 1) m past legal in
     let scripts = firmware_charged (pushes_price (λ q. 1)) (sum_of (push_of (λ q. 1))) m ok (covers_pushes m (λ q. 1)) (pushes_by m (λ q. 1)) past legal in
@@ -277,7 +277,7 @@ few_waiting m ok past legal =
     nothing_handled [] = refl
     nothing_handled (h ∷ qs) = let rest = nothing_handled qs in omega arith
 
-pushed : (m : MachineData) → IsMachine m → (past : List Entry) → LegalPast m past → total (by_deed is_push) past ≤ pushes m
+pub pushed : (m : MachineData) → IsMachine m → (past : List Entry) → LegalPast m past → total (by_deed is_push) past ≤ pushes m
 pushed m ok past legal =
     let scripts = firmware_charged (pushes_price (λ q. 1)) (sum_of (push_of (λ q. 1))) m ok (covers_pushes m (λ q. 1)) (pushes_by m (λ q. 1)) past legal in
     let handled = all_handled 1 no_worth (handlers_in m) refl m.firmware in
@@ -293,23 +293,23 @@ pushed m ok past legal =
     charge_same (deed.Push q) = omega arith
     charge_same _ = omega arith
 
-empty_is : (queue : List ℕ) → sum_of (λ (q : ℕ). 1) queue ≤ 0 → is_empty queue ≡ true
+pub empty_is : (queue : List ℕ) → sum_of (λ (q : ℕ). 1) queue ≤ 0 → is_empty queue ≡ true
 empty_is [] none = refl
 empty_is (q ∷ queue) none = absurd (omega arith)
 
-and_not : (b c : Bool) → c ≡ true → (b && not c) ≡ false
+pub and_not : (b c : Bool) → c ≡ true → (b && not c) ≡ false
 and_not true c is = rw is refl
 and_not false c is = refl
 
 -- without a push no query is asked
-unpushed : (m : MachineData) → IsMachine m → pushes m ≡ 0 → (past : List Entry) → LegalPast m past → total (queries_in m) past ≤ 0
+pub unpushed : (m : MachineData) → IsMachine m → pushes m ≡ 0 → (past : List Entry) → LegalPast m past → total (queries_in m) past ≤ 0
 unpushed m ok none past legal =
     let each = total-le m (queries_in m) (λ p e. 0) (λ p e lp allowed. no_query m p e.actor e.deed (λ n. and_not (is_own m n) (is_empty (codes p)) (empty_is (codes p) (let few = few_waiting m ok p lp in omega arith)))) past legal in
     let nothing = total-zero past in
     omega arith
 
 -- without a controller neither
-uncontrolled : (m : MachineData) → own_event m ≡ None → (past : List Entry) → LegalPast m past → total (queries_in m) past ≤ 0
+pub uncontrolled : (m : MachineData) → own_event m ≡ None → (past : List Entry) → LegalPast m past → total (queries_in m) past ≤ 0
 uncontrolled m none past legal =
     let each = total-le m (queries_in m) (λ p e. 0) (λ p e lp allowed. no_query m p e.actor e.deed (λ n. and_none (is_own m n) (not (is_empty (codes p))) (ap (λ o. names o n) none))) past legal in
     let nothing = total-zero past in
@@ -318,18 +318,18 @@ uncontrolled m none past legal =
     and_none : (b c : Bool) → b ≡ false → (b && c) ≡ false
     and_none b c is = rw is refl
 
-allows_split : (n : Event) (past : List Entry) → total (query_allows_in n) past ≡ (total (charged (lifts n)) past + total (by_deed (latch_in n)) past) + (2 * total (by_deed is_push) past + total moves_in past)
+pub allows_split : (n : Event) (past : List Entry) → total (query_allows_in n) past ≡ (total (charged (lifts n)) past + total (by_deed (latch_in n)) past) + (2 * total (by_deed is_push) past + total moves_in past)
 allows_split n [] = refl
 allows_split n (e ∷ past) = let before = allows_split n past in omega arith
 
-own_raises : (m : MachineData) (n : Event) → IsMachine m → own_event m ≡ Some n → (past : List Entry) → LegalPast m past → total (charged (lifts n)) past + total (by_deed (latch_in n)) past ≤ own_calls m (own_event m)
+pub own_raises : (m : MachineData) (n : Event) → IsMachine m → own_event m ≡ Some n → (past : List Entry) → LegalPast m past → total (charged (lifts n)) past + total (by_deed (latch_in n)) past ≤ own_calls m (own_event m)
 own_raises m n ok named past legal =
     let most = raises m n ok past legal in
     let calls = unlisted_runs m n ok (own_unlisted m n ok named) in
     let is : own_calls m (own_event m) ≡ calls_of m n = ap (own_calls m) named in
     omega arith
 
-queries_bound : (m : MachineData) → IsMachine m → (past : List Entry) → LegalPast m past → total (queries_in m) past ≤ asked m
+pub queries_bound : (m : MachineData) → IsMachine m → (past : List Entry) → LegalPast m past → total (queries_in m) past ≤ asked m
 unfolding asked
 queries_bound m ok past legal = at (pushes m == 0) refl (own_event m) refl
   where
@@ -347,7 +347,7 @@ queries_bound m ok past legal = at (pushes m == 0) refl (own_event m) refl
     at false is None named = let none = uncontrolled m named past legal in omega arith
     at false is (Some n) named = some n named
 
-query_moves_bound : (m : MachineData) → IsMachine m → (past : List Entry) → LegalPast m past → total query_moves_in past ≤ total (queries_in m) past
+pub query_moves_bound : (m : MachineData) → IsMachine m → (past : List Entry) → LegalPast m past → total query_moves_in past ≤ total (queries_in m) past
 query_moves_bound m ok past legal =
     let wire = wire_queries m past legal in
     let begins = queries_charge past in
@@ -370,13 +370,13 @@ query_moves_bound m ok past legal =
 
 -- ---- claims of the controller's event
 
-none_claimed : (m : MachineData) (past : List Entry) → total (ctl_takes m None) past ≡ 0
+pub none_claimed : (m : MachineData) (past : List Entry) → total (ctl_takes m None) past ≡ 0
 none_claimed m past = total-zero past
 
-some_takes : (m : MachineData) (n : Event) (past : List Entry) → total (ctl_takes m (Some n)) past ≤ total (takes m n) past
+pub some_takes : (m : MachineData) (n : Event) (past : List Entry) → total (ctl_takes m (Some n)) past ≤ total (takes m n) past
 some_takes m n past = total-le_all (ctl_takes m (Some n)) (takes m n) (λ p e. omega arith) past
 
-own_claims_bound : (m : MachineData) → IsMachine m → (past : List Entry) → LegalPast m past → total (ctl_takes m (own_event m)) past ≤ own_claims (is_some m.controller) (pushes m) (all_moves m) (own_calls m (own_event m)) (asked m)
+pub own_claims_bound : (m : MachineData) → IsMachine m → (past : List Entry) → LegalPast m past → total (ctl_takes m (own_event m)) past ≤ own_claims (is_some m.controller) (pushes m) (all_moves m) (own_calls m (own_event m)) (asked m)
 own_claims_bound m ok past legal = at m.controller refl
   where
     none : own_event m ≡ None → total (ctl_takes m (own_event m)) past ≤ 0
@@ -403,7 +403,7 @@ own_claims_bound m ok past legal = at m.controller refl
 
 -- ---- the sum
 
-worth_two : (c : List Op → ℕ) (q : ℕ) (m : MachineData) (past : List Entry) → 2 * total (by_deed is_start) past + total (started (job_worth c q m) m) past ≡ total (started (worth 2 c q m) m) past
+pub worth_two : (c : List Op → ℕ) (q : ℕ) (m : MachineData) (past : List Entry) → 2 * total (by_deed is_start) past + total (started (job_worth c q m) m) past ≡ total (started (worth 2 c q m) m) past
 worth_two c q m [] = refl
 worth_two c q m (e ∷ past) = let before = worth_two c q m past in let here = same past e.deed in omega arith
   where
@@ -411,14 +411,14 @@ worth_two c q m (e ∷ past) = let before = worth_two c q m past in let here = s
     same p (deed.Start j) = omega arith
     same p _ = omega arith
 
-three_sum : (m : MachineData) (past : List Entry) (ls : List ListedEvent) → sum_of (λ (l : ListedEvent). total (takes m l.listed.event) past * 1) ls + sum_of (λ (l : ListedEvent). total (takes m l.listed.event) past * listed_worth 2 (script_size m.fields) l) ls ≡ sum_of (λ (l : ListedEvent). total (takes m l.listed.event) past * (3 + script_size m.fields l.script)) ls
+pub three_sum : (m : MachineData) (past : List Entry) (ls : List ListedEvent) → sum_of (λ (l : ListedEvent). total (takes m l.listed.event) past * 1) ls + sum_of (λ (l : ListedEvent). total (takes m l.listed.event) past * listed_worth 2 (script_size m.fields) l) ls ≡ sum_of (λ (l : ListedEvent). total (takes m l.listed.event) past * (3 + script_size m.fields l.script)) ls
 three_sum m past [] = refl
 three_sum m past (l ∷ ls) = let rest = three_sum m past ls in omega arith
 
-fifteen : (x : ℕ) → x * (2 + 13) ≡ 15 * x
+pub fifteen : (x : ℕ) → x * (2 + 13) ≡ 15 * x
 fifteen x = omega arith
 
-listed_bound : (m : MachineData) → IsMachine m → (past : List Entry) → LegalPast m past → total (listed_part (λ l. 1) m m.events) past + sum_of (λ (l : ListedEvent). total (takes m l.listed.event) past * listed_worth 2 (script_size m.fields) l) m.events ≤ events_size m
+pub listed_bound : (m : MachineData) → IsMachine m → (past : List Entry) → LegalPast m past → total (listed_part (λ l. 1) m m.events) past + sum_of (λ (l : ListedEvent). total (takes m l.listed.event) past * listed_worth 2 (script_size m.fields) l) m.events ≤ events_size m
 listed_bound m ok past legal =
     let exchanged = exchange (λ l. 1) m m.events past in
     let three = three_sum m past m.events in
@@ -427,7 +427,7 @@ listed_bound m ok past legal =
     omega arith
 
 -- the parts of the weight, and those of a history
-plain_weight : (m : MachineData) → weight_of m ≡ weight_by m (pushes m) (all_moves m) (own_calls m (own_event m)) (asked m)
+pub plain_weight : (m : MachineData) → weight_of m ≡ weight_by m (pushes m) (all_moves m) (own_calls m (own_event m)) (asked m)
 unfolding weight_of asked
 plain_weight m = refl
 

@@ -50,32 +50,32 @@ abbrev pub left_of : (Request → Bool → ℕ) → Option Open → ℕ
 left_of w None = 0
 left_of w (Some o) = sum_of (w o.asks) (drop o.made (marks o.asks))
 
-abbrev worth_at : (Request → Bool → ℕ) → Option Open → Bool → ℕ
+abbrev pub worth_at : (Request → Bool → ℕ) → Option Open → Bool → ℕ
 worth_at w None b = 0
 worth_at w (Some o) b = w o.asks b
 
 -- ---- one move
 
-get-map : {X Y : Type 0} (f : X → Y) (xs : List X) (k : ℕ) (x : X) → slice_get xs k ≡ Some x → slice_get (map f xs) k ≡ Some (f x)
+pub get-map : {X Y : Type 0} (f : X → Y) (xs : List X) (k : ℕ) (x : X) → slice_get xs k ≡ Some x → slice_get (map f xs) k ≡ Some (f x)
 get-map f [] zero x at = cc
 get-map f [] (suc k) x at = cc
 get-map f (y ∷ ys) zero x at = cc
 get-map f (y ∷ ys) (suc k) x at = get-map f ys k x at
 
-marks-wire : (r : Request) (v : ℕ) → map is_ctl (wire r v) ≡ marks r
+pub marks-wire : (r : Request) (v : ℕ) → map is_ctl (wire r v) ≡ marks r
 marks-wire (request.Rd x) v = refl
 marks-wire (request.Wr x w) v = refl
 marks-wire request.Be v = refl
 marks-wire request.Bd v = refl
 marks-wire request.Qr v = refl
 
-drop-sum : (w : Bool → ℕ) (bs : List Bool) (k : ℕ) (b : Bool) → slice_get bs k ≡ Some b → sum_of w (drop k bs) ≡ w b + sum_of w (drop (suc k) bs)
+pub drop-sum : (w : Bool → ℕ) (bs : List Bool) (k : ℕ) (b : Bool) → slice_get bs k ≡ Some b → sum_of w (drop k bs) ≡ w b + sum_of w (drop (suc k) bs)
 drop-sum w [] zero b at = cc
 drop-sum w [] (suc k) b at = cc
 drop-sum w (c ∷ bs) zero b at = let same : c ≡ b = cc in ap (λ x. w x + sum_of w bs) same
 drop-sum w (c ∷ bs) (suc k) b at = drop-sum w bs k b at
 
-one_move : (w : Request → Bool → ℕ) (o : Open) (v : ℕ) (x : Move) → slice_get (wire o.asks v) o.made ≡ Some x → left_of w (Some o) ≡ w o.asks (is_ctl x) + left_of w (moved (Some o))
+pub one_move : (w : Request → Bool → ℕ) (o : Open) (v : ℕ) (x : Move) → slice_get (wire o.asks v) o.made ≡ Some x → left_of w (Some o) ≡ w o.asks (is_ctl x) + left_of w (moved (Some o))
 one_move w o v x at =
     let mark = subst (λ bs. slice_get bs o.made ≡ Some (is_ctl x)) (marks-wire o.asks v) (get-map is_ctl (wire o.asks v) o.made x at) in
     let more : suc o.made ≡ o.made + 1 = omega arith in
@@ -91,15 +91,15 @@ ctl_is e None is = cc
 ctl_is e (Some (move.Host g)) is = cc
 ctl_is e (Some (move.Ctl f)) is = (f, refl, is)
 
-host_step : (w : Request → Bool → ℕ) (m : MachineData) (past : List Entry) (h : HostMove) (oo : Option Open) → is_host_move h (next_in m past oo) ≡ true → left_of w oo ≡ worth_at w oo false + left_of w (moved oo)
+pub host_step : (w : Request → Bool → ℕ) (m : MachineData) (past : List Entry) (h : HostMove) (oo : Option Open) → is_host_move h (next_in m past oo) ≡ true → left_of w oo ≡ worth_at w oo false + left_of w (moved oo)
 host_step w m past h None is = cc
 host_step w m past h (Some o) is = let next = host_is h (next_in m past (Some o)) is in one_move w o (blank m past o) (move.Host next.0) next.1
 
-ctl_step : (w : Request → Bool → ℕ) (m : MachineData) (past : List Entry) (e : Effect) (oo : Option Open) → is_ctl_move e (next_in m past oo) ≡ true → left_of w oo ≡ worth_at w oo true + left_of w (moved oo)
+pub ctl_step : (w : Request → Bool → ℕ) (m : MachineData) (past : List Entry) (e : Effect) (oo : Option Open) → is_ctl_move e (next_in m past oo) ≡ true → left_of w oo ≡ worth_at w oo true + left_of w (moved oo)
 ctl_step w m past e None is = cc
 ctl_step w m past e (Some o) is = let next = ctl_is e (next_in m past (Some o)) is in one_move w o (blank m past o) (move.Ctl next.0) next.1
 
-put_left : (w : Request → Bool → ℕ) (v : ℕ) (oo : Option Open) → left_of w (put_out v oo) ≡ left_of w (moved oo)
+pub put_left : (w : Request → Bool → ℕ) (v : ℕ) (oo : Option Open) → left_of w (put_out v oo) ≡ left_of w (moved oo)
 put_left w v None = refl
 put_left w v (Some o) = refl
 
@@ -127,7 +127,7 @@ is_wire (deed.Ctl e) = 1
 is_wire (deed.Take v) = 1
 is_wire _ = 0
 
-begin_entries : (r : Request) → 2 + sum_of (entry_worth r) (marks r) ≡ request_entries r
+pub begin_entries : (r : Request) → 2 + sum_of (entry_worth r) (marks r) ≡ request_entries r
 begin_entries (request.Rd x) = refl
 begin_entries (request.Wr x v) = refl
 begin_entries request.Be = refl
@@ -135,7 +135,7 @@ begin_entries request.Bd = refl
 begin_entries request.Qr = refl
 
 -- burst mode is turned on by a Be alone
-burst_few : (r : Request) (e : Effect) (old : Bool) → one (burst_by r (move.Ctl e) old) ≤ one (is_be r) + one old
+pub burst_few : (r : Request) (e : Effect) (old : Bool) → one (burst_by r (move.Ctl e) old) ≤ one (is_be r) + one old
 burst_few (request.Rd x) e old = omega arith
 burst_few (request.Wr x v) e old = omega arith
 burst_few request.Be e old = let few = one_small (burst_by request.Be (move.Ctl e) old) in omega arith
@@ -145,34 +145,34 @@ burst_few request.Bd effect.Calm old = omega arith
 burst_few request.Bd (effect.Out v) old = omega arith
 burst_few request.Qr e old = omega arith
 
-burst_paid : (e : Effect) (oo : Option Open) (old : Bool) → is_some oo ≡ true → 1 + one (burst_in oo e old) ≤ worth_at entry_worth oo true + one old
+pub burst_paid : (e : Effect) (oo : Option Open) (old : Bool) → is_some oo ≡ true → 1 + one (burst_in oo e old) ≤ worth_at entry_worth oo true + one old
 burst_paid e None old some = cc
 burst_paid e (Some o) old some = let few = burst_few o.asks e old in omega arith
 
-same_some : (oo : Option Open) → one (is_some (moved oo)) ≡ one (is_some oo)
+pub same_some : (oo : Option Open) → one (is_some (moved oo)) ≡ one (is_some oo)
 same_some None = refl
 same_some (Some o) = refl
 
-put_some : (v : ℕ) (oo : Option Open) → one (is_some (put_out v oo)) ≡ one (is_some oo)
+pub put_some : (v : ℕ) (oo : Option Open) → one (is_some (put_out v oo)) ≡ one (is_some oo)
 put_some v None = refl
 put_some v (Some o) = refl
 
-none_left : (w : Request → Bool → ℕ) (oo : Option Open) → is_none oo ≡ true → left_of w oo ≡ 0
+pub none_left : (w : Request → Bool → ℕ) (oo : Option Open) → is_none oo ≡ true → left_of w oo ≡ 0
 none_left w None none = refl
 none_left w (Some o) none = cc
 
-host_entry : (oo : Option Open) → is_some oo ≡ true → worth_at entry_worth oo false ≡ 1
+pub host_entry : (oo : Option Open) → is_some oo ≡ true → worth_at entry_worth oo false ≡ 1
 host_entry None some = cc
 host_entry (Some o) some = refl
 
-taken_some : (m : MachineData) (past : List Entry) (oo : Option Open) → is_some (taking_in m past oo) ≡ true → one (is_some oo) ≡ 1
+pub taken_some : (m : MachineData) (past : List Entry) (oo : Option Open) → is_some (taking_in m past oo) ≡ true → one (is_some oo) ≡ 1
 taken_some m past None some = cc
 taken_some m past (Some o) some = refl
 
-calm_is : (fickle on none : Bool) → (fickle && on && none) ≡ true → one on ≡ 1
+pub calm_is : (fickle on none : Bool) → (fickle && on && none) ≡ true → one on ≡ 1
 calm_is fickle on none h = ap one (and_parts fickle on (and_parts (fickle && on) none h).0).1
 
-entries_step : (m : MachineData) (past : List Entry) (a : Actor) (d : Deed) → Allowed m past (record { actor = a; deed = d })
+pub entries_step : (m : MachineData) (past : List Entry) (a : Actor) (d : Deed) → Allowed m past (record { actor = a; deed = d })
     → is_wire d + (entries_left (open_after a d (open_of past)) + one (burst_after (open_of past) d (burst past))) ≤ begins_price request_entries d + (entries_left (open_of past) + one (burst past))
 entries_step m past a (deed.Begin r) ok =
     let h = hold m past a (deed.Begin r) ok in
@@ -248,37 +248,37 @@ abbrev pub is_qr : Request → ℕ
 is_qr request.Qr = 1
 is_qr _ = 0
 
-begin_moves : (r : Request) → sum_of (move_worth r) (marks r) ≡ request_moves r
+pub begin_moves : (r : Request) → sum_of (move_worth r) (marks r) ≡ request_moves r
 begin_moves (request.Rd x) = refl
 begin_moves (request.Wr x v) = refl
 begin_moves request.Be = refl
 begin_moves request.Bd = refl
 begin_moves request.Qr = refl
 
-begin_queries : (r : Request) → sum_of (query_worth r) (marks r) ≡ is_qr r
+pub begin_queries : (r : Request) → sum_of (query_worth r) (marks r) ≡ is_qr r
 begin_queries (request.Rd x) = refl
 begin_queries (request.Wr x v) = refl
 begin_queries request.Be = refl
 begin_queries request.Bd = refl
 begin_queries request.Qr = refl
 
-move_priced : (oo : Option Open) → is_some oo ≡ true → worth_at move_worth oo true ≡ (if asks_code oo then 0 else 1)
+pub move_priced : (oo : Option Open) → is_some oo ≡ true → worth_at move_worth oo true ≡ (if asks_code oo then 0 else 1)
 move_priced None some = cc
 move_priced (Some o) some = refl
 
-query_priced : (oo : Option Open) → is_some oo ≡ true → worth_at query_worth oo true ≡ (if asks_code oo then 1 else 0)
+pub query_priced : (oo : Option Open) → is_some oo ≡ true → worth_at query_worth oo true ≡ (if asks_code oo then 1 else 0)
 query_priced None some = cc
 query_priced (Some o) some = refl
 
-host_move : (oo : Option Open) → worth_at move_worth oo false ≡ 0
+pub host_move : (oo : Option Open) → worth_at move_worth oo false ≡ 0
 host_move None = refl
 host_move (Some o) = refl
 
-host_query : (oo : Option Open) → worth_at query_worth oo false ≡ 0
+pub host_query : (oo : Option Open) → worth_at query_worth oo false ≡ 0
 host_query None = refl
 host_query (Some o) = refl
 
-moves_step : (m : MachineData) (past : List Entry) (a : Actor) (d : Deed) → Allowed m past (record { actor = a; deed = d })
+pub moves_step : (m : MachineData) (past : List Entry) (a : Actor) (d : Deed) → Allowed m past (record { actor = a; deed = d })
     → is_move (open_of past) d + left_of move_worth (open_after a d (open_of past)) ≤ begins_price request_moves d + left_of move_worth (open_of past)
 moves_step m past a (deed.Begin r) ok = let all = begin_moves r in omega arith
 moves_step m past a (deed.Step g) ok =
@@ -309,7 +309,7 @@ moves_step m past a _ ok = omega arith
 pub wire_moves : (m : MachineData) (past : List Entry) → LegalPast m past → total moves_in past + left_of move_worth (open_of past) ≤ 0 + total (by_deed (begins_price request_moves)) past
 wire_moves m past legal = bounded m (λ p. left_of move_worth (open_of p)) moves_in (by_deed (begins_price request_moves)) 0 (omega arith) (λ p e lp ok. moves_step m p e.actor e.deed ok) past legal
 
-queries_step : (m : MachineData) (past : List Entry) (a : Actor) (d : Deed) → Allowed m past (record { actor = a; deed = d })
+pub queries_step : (m : MachineData) (past : List Entry) (a : Actor) (d : Deed) → Allowed m past (record { actor = a; deed = d })
     → is_query_move (open_of past) d + left_of query_worth (open_after a d (open_of past)) ≤ begins_price is_qr d + left_of query_worth (open_of past)
 queries_step m past a (deed.Begin r) ok = let all = begin_queries r in omega arith
 queries_step m past a (deed.Step g) ok =

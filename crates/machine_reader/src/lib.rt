@@ -18,10 +18,6 @@ mod parts;
 mod path;
 mod ranges;
 mod read;
-#[cfg(test)]
-mod samples;
-#[cfg(test)]
-mod tests;
 mod values;
 mod whole;
 mod write;

@@ -1,7 +1,8 @@
-use Rattle.std.proofs.Common.{refl}
-use Rattle.acpi_commands.proofs.RunLemmas.{answers_from}
+use Rattle.std.proofs.Common.{subst}
+use Rattle.acpi_commands.specs.Words.{Commands}
+use Rattle.acpi_commands.proofs.RunLemmas.{answered}
 use Rattle.acpi_commands.proofs.program.answer.Goals as goal
 
-pub returns-in-Ok-clause-answers : goal.returns-in-Ok-clause-answers
-returns-in-Ok-clause-answers g c =
-    answers_from c.args.words.now _ _ _ _ _ _ c.in-Ok.bytes.items c.run.result (c.if-not-is_run.ensures.0 refl) c.in-Ok.ensures.ends (rw c.deref.ensures.value at c.run.ensures.ends)
+pub returns-in-Some-clause-answers : goal.returns-in-Some-clause-answers
+returns-in-Some-clause-answers g c =
+    answered c.args.words.now _ _ _ _ _ _ c.in-Some.command c.carry_out.result (subst (λ o. Commands c.args.words.now o) c.in-Some.is c.command_of.ensures) c.carry_out.ensures.answers

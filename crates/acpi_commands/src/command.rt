@@ -1,0 +1,45 @@
+//! The commands of the program, by its words.
+ghost use Rattle.std.specs.Prelude.{◌≡◌};
+ghost use Rattle.acpi_commands.specs.Words.{Commands, IsWord, limit_of};
+
+/// What the program is to do.
+#[derive(Clone, Copy, Debug)]
+pub enum Command {
+    /// Run the machine, in rounds of its actors.
+    Run,
+    /// Run the machine by its schedule, a step a name, and then in rounds.
+    Replay,
+}
+
+impl Command {
+    /// The greatest number of bytes that it reads.
+    pub fn limit(self) -> usize
+        ensures { result ≡ limit_of self }
+    {
+        match self {
+            Command::Run | Command::Replay => 4_194_304,
+        }
+    }
+}
+
+/// The command that the words are; `None` exactly where they are none.
+pub fn command_of(words: &[String]) -> Option<Command>
+    ensures { Commands words.now result }
+{
+    match words {
+        [word] => command_named(word.as_str()),
+        _ => None,
+    }
+}
+
+fn command_named(word: &str) -> Option<Command>
+    ensures { IsWord word.now result }
+{
+    if word == "run" {
+        Some(Command::Run)
+    } else if word == "replay" {
+        Some(Command::Replay)
+    } else {
+        None
+    }
+}

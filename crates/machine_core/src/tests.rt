@@ -1,3 +1,0 @@
-//! Boards of small machines, each driven entry by entry through whole histories, and what they refuse on the way.
-mod machines;
-mod memory;

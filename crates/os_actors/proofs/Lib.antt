@@ -1,0 +1,4 @@
+pub mod Giving
+pub mod HostEntries
+pub mod Latching
+pub mod Pending

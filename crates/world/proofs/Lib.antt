@@ -1,0 +1,6 @@
+pub mod Entries
+pub mod Events
+pub mod PinSets
+pub mod FreeTurns
+pub mod Giving
+pub mod Turns

@@ -1,0 +1,5 @@
+pub mod Calls
+pub mod Duties
+pub mod Giving
+pub mod Serial
+pub mod Stepping
