@@ -15,7 +15,7 @@ stuck_lines-append (n ∷ some) others =
     ap (λ t. stuck_line n ++ t) (stuck_lines-append some others) ∙ sym (append_assoc (stuck_line n) (stuck_lines some) (stuck_lines others))
 
 -- the lines of one event more
-one_more : (set : Event → Bool) (k : ℕ) → stuck_lines (events_below set (k + 1)) ≡ stuck_lines (events_below set k) ++ stuck_lines (if_in set (event_at k))
+pub one_more : (set : Event → Bool) (k : ℕ) → stuck_lines (events_below set (k + 1)) ≡ stuck_lines (events_below set k) ++ stuck_lines (if_in set (event_at k))
 unfolding events_below
 one_more set k = rw (add-one k) (stuck_lines-append (events_below set k) (if_in set (event_at k)))
 
@@ -24,7 +24,7 @@ unfolding events_below
 below_next set n = refl
 
 -- the events below a place are a front of those below a further one
-front : (set : Event → Bool) (k n : ℕ) → k ≤ n → (rest : List Event) × (events_below set n ≡ events_below set k ++ rest)
+pub front : (set : Event → Bool) (k n : ℕ) → k ≤ n → (rest : List Event) × (events_below set n ≡ events_below set k ++ rest)
 front set k zero within = let none : k ≡ 0 = omega arith in rw none ([], sym (append-nil (events_below set 0)))
 front set k (suc n) within = by_same (k == suc n) refl (λ less. front set k n less)
   where

@@ -25,7 +25,7 @@ mod read;
 pub use bytes::log_bytes;
 pub use fault::LogFault;
 pub use line::{Line, LineText, line_of_entry, line_of_rest, line_of_stuck, write_line};
-pub use log::write_log;
+pub use log::{EVENTS, event_at, write_log};
 pub use log_read::{Log, read_log};
 pub use pieces::Pieces;
 

@@ -67,7 +67,7 @@ fn put_entries<K: Sink>(pieces: &mut Pieces, sink: &mut K, board: &Board) -> Res
 }
 
 /// How many events there are: the fixed ones, and 256 GPEs.
-const EVENTS: u16 = 261;
+pub const EVENTS: u16 = 261;
 
 /// Puts a line for each event that is parked behind what waits.
 fn put_parked<K: Sink>(pieces: &mut Pieces, sink: &mut K, board: &Board) -> Result<(), WriteFault>
@@ -104,7 +104,7 @@ fn put_if_parked<K: Sink>(
 }
 
 /// The event at a place in the order in which events are served.
-fn event_at(place: u16) -> Event
+pub fn event_at(place: u16) -> Event
     requires { place < 261 }
     ensures { result ≡ event_at place }
 {

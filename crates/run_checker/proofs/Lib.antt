@@ -1,0 +1,4 @@
+mod Given
+mod Lists
+mod Steps
+mod Told

@@ -1,0 +1,4 @@
+pub mod Words
+pub mod Reasons
+pub mod Verdict
+pub mod Ends
