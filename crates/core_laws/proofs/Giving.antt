@@ -344,6 +344,19 @@ latches_legal m a host (x ∷ events) past few = (
   latches_legal m a host events (entry a (deed.Latch x) ∷ past) (λ n. (let all = few n in omega arith)),
 )
 
+lists_same : (n : Event) (events : List Event) → machine.times n events ≡ times n events
+lists_same n [] = refl
+lists_same n (x ∷ events) = ap (λ k. one (same_event x n) + k) (lists_same n events)
+
+pulses_same : (n : Event) (lists : List (List Event)) → sum_by (machine.times n) lists ≡ listed_pulses lists n
+pulses_same n lists = ap (λ f. sum_by f lists) (λ i events. lists_same n events i)
+
+pub sweep_legal : (m : MachineData) (c : Core) (a : Actor) → PinsSound m.devices c.pins (past_in c) c.phases → is_host a ≡ true → EachLegal m (past_in c) a (map deed.Latch (events_of c.pins))
+sweep_legal m c a h host = latches_legal m a host (events_of c.pins) (past_in c) (λ n. (let all = latches_within m.devices c.pins (past_in c) c.phases n h in let pinned = times_of c.pins n (h.pins_known n) in let same = pulses_same n m.devices in omega arith))
+
+pub fewer_latches : (m : MachineData) (c : Core) (n : Event) → PinsSound m.devices c.pins (past_in c) c.phases → c.pins n ≡ true → history.latches (past_in c) n < pulses_of m n
+fewer_latches m c n h set = let all = latches_within m.devices c.pins (past_in c) c.phases n h in let pinned = ap one set in let same = pulses_same n m.devices in let counts = latches_same n (past_in c) in omega arith
+
 -- ---- a sweep is five collects and a turn
 
 module _ (m : MachineData) (c : Core) (a : Actor) (host : is_host a ≡ true) (at : c.phases a ≡ Free) (nobody : NobodyHolds c) (h : PinsSound m.devices c.pins (past_in c) c.phases) where
@@ -428,7 +441,7 @@ module _ (m : MachineData) (c : Core) (a : Actor) (host : is_host a ≡ true) (a
     latches = ([], ap (map deed.Latch) (ap events_of (sym whole_hand) ∙ ap (λ p. events_of (in_hand p)) (sym (put_self a (Holding words_5 hand_5) c.phases))) ∙ sym (append_nothing (map deed.Latch (events_of (in_hand (core_5.phases a))))), refl);
     few = few (events_of c.pins);
     may = subst (λ p. EachMay p (map deed.Latch (events_of c.pins))) (sym (put_self a (Holding words_5 hand_5) c.phases)) (each (events_of c.pins));
-    legal = latches_legal m a host (events_of c.pins) (past_in c) (λ n. (let all = latches_within m.devices c.pins (past_in c) c.phases n h in let pinned = times_of c.pins n (h.pins_known n) in let same = pulses_same n m.devices in omega arith));
+    legal = sweep_legal m c a h host;
   }
     where
       append_nothing : (ds : List Deed) → ds ++ [] ≡ ds
@@ -442,13 +455,6 @@ module _ (m : MachineData) (c : Core) (a : Actor) (host : is_host a ≡ true) (a
       each : (events : List Event) → EachMay (Holding words_5 hand_5) (map deed.Latch events)
       each [] = tt
       each (n ∷ events) = (refl, each events)
-
-      lists_same : (n : Event) (events : List Event) → machine.times n events ≡ times n events
-      lists_same n [] = refl
-      lists_same n (x ∷ events) = ap (λ k. one (same_event x n) + k) (lists_same n events)
-
-      pulses_same : (n : Event) (lists : List (List Event)) → sum_by (machine.times n) lists ≡ listed_pulses lists n
-      pulses_same n lists = ap (λ f. sum_by f lists) (λ i events. lists_same n events i)
 
   after_sweep : turned core_5 a (map deed.Latch (events_of c.pins)) ≡ steps.happens c a Sweeps
   after_sweep =

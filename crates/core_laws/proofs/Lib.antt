@@ -1,3 +1,5 @@
 pub mod Giving
 pub mod Ranges
+pub mod Saying
+pub mod Starting
 pub mod Steps
