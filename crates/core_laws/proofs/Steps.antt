@@ -24,6 +24,7 @@ use Rattle.machine_history.specs.Legal.{Allowed, Legal, LegalPast, unsought}
 use Rattle.machine_history.proofs.Known.{hold, is_none-none}
 use Rattle.core_laws.specs.CoreSteps.{AllHappen, EachLegal, EachMay, IsBusTurn, MayHappen, after, happens}
 use Rattle.core_laws.specs.Sound.{Sound}
+use Rattle.core_laws.proofs.Asking.{codes_sound}
 use Rattle.core_laws.proofs.Ranges.{in_range}
 
 -- ---- a turn
@@ -116,10 +117,10 @@ legal_step m c (Collect a w) legal may = legal
 legal_step m c (Turn a ds) legal may = subst (LegalPast m) (sym (turn_past c a ds)) (legal_all m (past_in c) a ds may.legal legal)
 
 pub sound_step : (m : MachineData) (c : Core) (e : CoreEvent) → IsMachine m → Sound m c → MayHappen m c e → Sound m (happens m c e)
-sound_step m c e ok h may = record { legal = legal_step m c e h.legal may; core = core_step m.devices c e (in_range m ok) h.core (may_core m c e may) }
+sound_step m c e ok h may = let legal = legal_step m c e h.legal may in record { legal = legal; core = core_step m.devices c e (in_range m ok) h.core (may_core m c e may); codes = codes_sound m ok (past_in (happens m c e)) legal }
 
 pub sound_first : (m : MachineData) → Sound m first_core
-sound_first m = record { legal = tt; core = core_first m.devices }
+sound_first m = record { legal = tt; core = core_first m.devices; codes = λ some. cc }
 
 pub sound_all : (m : MachineData) (c : Core) (events : List CoreEvent) → IsMachine m → Sound m c → AllHappen m c events → Sound m (after m c events)
 sound_all m c [] ok h all = h
