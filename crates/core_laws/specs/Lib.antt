@@ -1,0 +1,5 @@
+pub mod Codes
+pub mod CoreSteps
+pub mod Gives
+pub mod Said
+pub mod Sound
