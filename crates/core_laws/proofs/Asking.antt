@@ -294,7 +294,7 @@ keep m ok past b d legal may same none unclaimed before = λ some. elim (before 
   | inr asks ↦ inr (keep_asked m past b d legal may none asks)
 ]
 
-few_starts : (m : MachineData) (past : List Entry) → LegalPast m past → starts past ≤ length (jobs m past)
+pub few_starts : (m : MachineData) (past : List Entry) → LegalPast m past → starts past ≤ length (jobs m past)
 few_starts m [] legal = omega arith
 few_starts m (e ∷ past) legal = at e.actor e.deed legal.0 (few_starts m past legal.1)
   where

@@ -308,7 +308,7 @@ all_taken true (suc (suc (suc (suc (suc x))))) most = absurd (let h = most refl 
 
 -- ---- the latches of a sweep are allowed
 
-latches_same : (n : Event) (past : List Entry) → history.latches past n ≡ latches n past
+pub latches_same : (n : Event) (past : List Entry) → history.latches past n ≡ latches n past
 latches_same n [] = refl
 latches_same n (e ∷ past) = at e.deed (latches_same n past)
   where
@@ -344,7 +344,7 @@ latches_legal m a host (x ∷ events) past few = (
   latches_legal m a host events (entry a (deed.Latch x) ∷ past) (λ n. (let all = few n in omega arith)),
 )
 
-lists_same : (n : Event) (events : List Event) → machine.times n events ≡ times n events
+pub lists_same : (n : Event) (events : List Event) → machine.times n events ≡ times n events
 lists_same n [] = refl
 lists_same n (x ∷ events) = ap (λ k. one (same_event x n) + k) (lists_same n events)
 

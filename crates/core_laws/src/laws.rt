@@ -1,19 +1,22 @@
 //! Laws over the definitions of a core and of histories, each for every machine. A law is a function with nothing to do,
 //! whose contract says it.
-ghost use Rattle.std.specs.Prelude.{◌≡◌, ◌<◌, true, List, map, reverse, Some};
+ghost use Rattle.std.specs.Prelude.{◌≡◌, ◌<◌, ◌≤◌, true, List, length, map, reverse, Some};
 ghost use Rattle.acpi_regs.specs.declared.actor.Actor.{Actor};
 ghost use Rattle.acpi_regs.specs.declared.entry.Deed.TheVariants as deed;
 ghost use Rattle.acpi_regs.specs.declared.entry.Entry.{Entry};
 ghost use Rattle.acpi_regs.specs.declared.event.Event.{Event};
 ghost use Rattle.acpi_regs.specs.Core.{Core, events_of, first_core};
 ghost use Rattle.acpi_regs.specs.CoreEvents.{CoreEvent, is_host};
+ghost use Rattle.machine_desc.specs.Actors.{actors_of};
 ghost use Rattle.machine_desc.specs.Kept.{IsMachine};
 ghost use Rattle.machine_desc.specs.Machine.{MachineData};
+ghost use Rattle.machine_desc.specs.Weight.{weight_of};
 ghost use Rattle.machine_history.specs.Events.{latches};
 ghost use Rattle.machine_history.specs.Exclusion.{AccessesByOwner, DisownsBetween};
 ghost use Rattle.machine_history.specs.Legal.{Legal};
 ghost use Rattle.machine_history.specs.Machine.{pulses_of};
-ghost use Rattle.machine_history.specs.Played.{Settles, steps, stepped};
+ghost use Rattle.machine_history.specs.Complete.{Complete};
+ghost use Rattle.machine_history.specs.Played.{Played, Settles, steps, stepped};
 ghost use Rattle.machine_history.specs.Steps.{gives};
 ghost use Rattle.machine_history.specs.Wire.{given};
 ghost use Rattle.core_laws.specs.Codes.{IsFront, started_codes};
@@ -21,6 +24,7 @@ ghost use Rattle.core_laws.specs.CoreSteps.{AllHappen, EachLegal, MayHappen, aft
 ghost use Rattle.core_laws.specs.Gives.{IsEvents, NobodyHolds};
 ghost use Rattle.core_laws.specs.Said.{AsSaid, holds_word};
 ghost use Rattle.core_laws.specs.Sound.{Sound};
+ghost use Rattle.core_laws.specs.Stuck.{IsStuck};
 
 /// The first core of a machine is sound, and each event that may happen leads from a sound core to a sound one. So does every
 /// list of events, of any actors in any order.
@@ -61,4 +65,18 @@ pub fn law_codes()
 pub fn law_latches()
     ensures fewer { (m : MachineData) (c : Core) (n : Event) → Sound m c → c.pins n ≡ true → latches (reverse c.history) n < pulses_of m n }
     ensures sweep { (m : MachineData) (c : Core) (a : Actor) → Sound m c → is_host a ≡ true → EachLegal m (reverse c.history) a (map deed.Latch (events_of c.pins)) }
+{}
+
+/// Nothing deadlocks: a sound core of a machine in which no actor has a step has a complete history. So what rounds settle on
+/// from a sound core is complete, and so is each history that a machine plays.
+pub fn law_no_deadlock()
+    ensures stuck { (m : MachineData) (c : Core) → IsMachine m → Sound m c → IsStuck m c → Complete m c.history }
+    ensures settled { (m : MachineData) (c d : Core) → IsMachine m → Sound m c → NobodyHolds c → Settles m (actors_of m) c d → Complete m d.history }
+    ensures played { (m : MachineData) (history : List Entry) → IsMachine m → Played m history → Complete m history }
+{}
+
+/// Every legal history of a machine, and so that of a sound core, has at most as many entries as the machine's weight.
+pub fn law_weight()
+    ensures legal { (m : MachineData) (history : List Entry) → IsMachine m → Legal m history → length history ≤ weight_of m }
+    ensures sound { (m : MachineData) (c : Core) → IsMachine m → Sound m c → length c.history ≤ weight_of m }
 {}
