@@ -1,4 +1,5 @@
-//! The program over sources and sinks in memory.
+//! The program over sources and sinks in memory, which fail at a call, have no room, or give too much. Tables of descriptions
+//! with their answers and logs stand in the crates `description_verdicts` and `machine_runs`.
 use crate::{Status, acpi_events, end};
 use acpi_io::{MemorySink, MemorySource, ReadOutcome, Source};
 use machine_desc::{BadMachine, Part, Place, Rule};
@@ -87,134 +88,6 @@ fn the_empty_machine_and_two_accesses_run(rt: HostRuntime) -> Result<(), Fail> {
             assert_eq!(rt; outcome.status, Status::Ok);
             assert!(rt; outcome.held.as_slice() == log.as_bytes(), "{description}");
         }
-    }
-    Ok(())
-}
-
-/// What refuses a description, and what is said of it.
-#[test]
-fn each_refusal_of_a_description_has_its_code_and_place(rt: HostRuntime) -> Result<(), Fail> {
-    let cases = [
-        ("{\"version\":1", 3, "NotJson"),
-        ("", 3, "NotJson"),
-        ("[]", 3, "BadShape "),
-        (
-            "{\"controller\":null,\"devices\":[],\"events\":[],\"fields\":[],\"firmware\":[],\"gpe\":{\"base1\":0,\"gpe0\":2,\"gpe1\":0},\"regions\":[],\"schedule\":[],\"version\":1,\"workers\":\"1\"}",
-            3,
-            "BadShape workers",
-        ),
-        (
-            "{\"controller\":null,\"devices\":[],\"events\":[],\"fields\":[{\"bit\":0,\"lock\":false,\"region\":0,\"update\":\"preserve\",\"width\":8},{\"bit\":0,\"lock\":false,\"region\":0,\"update\":\"preserve\",\"width\":\"8\"}],\"firmware\":[],\"gpe\":{\"base1\":0,\"gpe0\":2,\"gpe1\":0},\"regions\":[{\"bytes\":[],\"kind\":\"memory\",\"len\":1}],\"schedule\":[],\"version\":1,\"workers\":1}",
-            3,
-            "BadShape fields.1.width",
-        ),
-        (
-            "{\"controller\":null,\"devices\":[],\"events\":[],\"fields\":[],\"firmware\":[[[\"hold\"]]],\"gpe\":{\"base1\":0,\"gpe0\":2,\"gpe1\":0},\"regions\":[],\"schedule\":[],\"version\":1,\"workers\":1}",
-            3,
-            "BadMachine Unbalanced Firmware 0 0",
-        ),
-        (
-            "{\"controller\":null,\"devices\":[],\"events\":[],\"fields\":[],\"firmware\":[[[\"skip\",0,1]]],\"gpe\":{\"base1\":0,\"gpe0\":2,\"gpe1\":0},\"regions\":[],\"schedule\":[],\"version\":1,\"workers\":1}",
-            3,
-            "BadMachine BadSkip Firmware 0 0",
-        ),
-        (
-            "{\"controller\":null,\"devices\":[],\"events\":[],\"fields\":[],\"firmware\":[[],[[\"notify\",1,2]]],\"gpe\":{\"base1\":0,\"gpe0\":2,\"gpe1\":0},\"regions\":[],\"schedule\":[],\"version\":1,\"workers\":1}",
-            3,
-            "BadMachine NotAllowed Firmware 1 0",
-        ),
-        (
-            "{\"controller\":null,\"devices\":[],\"events\":[],\"fields\":[],\"firmware\":[],\"gpe\":{\"base1\":0,\"gpe0\":3,\"gpe1\":0},\"regions\":[],\"schedule\":[],\"version\":1,\"workers\":0}",
-            3,
-            "BadMachine BadGeometry Gpe 0 0",
-        ),
-        (
-            "{\"controller\":null,\"devices\":[],\"events\":[],\"fields\":[],\"firmware\":[],\"gpe\":{\"base1\":0,\"gpe0\":2,\"gpe1\":0},\"regions\":[],\"schedule\":[],\"version\":1,\"workers\":0}",
-            3,
-            "BadMachine BadWorkers Workers 0 0",
-        ),
-        (
-            "{\"controller\":null,\"devices\":[],\"events\":[],\"fields\":[{\"bit\":0,\"lock\":true,\"region\":0,\"update\":\"preserve\",\"width\":8}],\"firmware\":[],\"gpe\":{\"base1\":0,\"gpe0\":2,\"gpe1\":0},\"regions\":[{\"bytes\":[],\"kind\":\"memory\",\"len\":1}],\"schedule\":[],\"version\":1,\"workers\":1}",
-            12,
-            "NotBuilt",
-        ),
-        (
-            "{\"controller\":null,\"devices\":[],\"events\":[{\"name\":\"pwr\",\"refs\":1,\"script\":[]}],\"fields\":[],\"firmware\":[],\"gpe\":{\"base1\":0,\"gpe0\":2,\"gpe1\":0},\"regions\":[],\"schedule\":[],\"version\":1,\"workers\":1}",
-            12,
-            "NotBuilt",
-        ),
-        (
-            "{\"controller\":null,\"devices\":[[\"gbl\"]],\"events\":[],\"fields\":[],\"firmware\":[],\"gpe\":{\"base1\":0,\"gpe0\":2,\"gpe1\":0},\"regions\":[],\"schedule\":[],\"version\":1,\"workers\":1}",
-            12,
-            "NotBuilt",
-        ),
-        (
-            "{\"controller\":{\"event\":\"g06\",\"fickle\":false,\"queries\":[],\"silent\":false},\"devices\":[],\"events\":[],\"fields\":[],\"firmware\":[],\"gpe\":{\"base1\":0,\"gpe0\":2,\"gpe1\":0},\"regions\":[],\"schedule\":[],\"version\":1,\"workers\":1}",
-            12,
-            "NotBuilt",
-        ),
-        (
-            "{\"controller\":null,\"devices\":[],\"events\":[],\"fields\":[],\"firmware\":[[[\"raise\",\"gbl\"]]],\"gpe\":{\"base1\":0,\"gpe0\":2,\"gpe1\":0},\"regions\":[],\"schedule\":[],\"version\":1,\"workers\":1}",
-            12,
-            "NotBuilt",
-        ),
-        (
-            "{\"controller\":null,\"devices\":[],\"events\":[],\"fields\":[],\"firmware\":[[[\"hold\"],[\"free\"]]],\"gpe\":{\"base1\":0,\"gpe0\":2,\"gpe1\":0},\"regions\":[],\"schedule\":[],\"version\":1,\"workers\":1}",
-            12,
-            "NotBuilt",
-        ),
-    ];
-    for (description, code, said) in cases {
-        let outcome = run(rt.alloc(), description.as_bytes(), NO_FAULTS)?;
-        assert_eq!(rt; outcome.status.code(), code, "{description}");
-        let text = format!(in rt.alloc(); "{}", outcome.status)?;
-        assert!(rt; text.as_str() == said, "{description}");
-        assert!(rt; outcome.held.is_empty());
-        assert_eq!(rt; outcome.writes, 0);
-    }
-    Ok(())
-}
-
-/// Fields over several bytes under each update rule, a skip, several workers, and three firmware scripts in rounds.
-#[test]
-fn scripts_run_as_their_operations_say(rt: HostRuntime) -> Result<(), Fail> {
-    let cases = [
-        (
-            "{\"controller\":null,\"devices\":[],\"events\":[],\"fields\":[{\"bit\":2,\"lock\":false,\"region\":0,\"update\":\"preserve\",\"width\":12}],\"firmware\":[[[\"write\",0,2748]]],\"gpe\":{\"base1\":0,\"gpe0\":2,\"gpe1\":0},\"regions\":[{\"bytes\":[195,188],\"kind\":\"memory\",\"len\":2}],\"schedule\":[],\"version\":1,\"workers\":1}",
-            "f0 read 00:0000 C3\nf0 write 00:0000 F3\nf0 read 00:0001 BC\nf0 write 00:0001 AA\n",
-            4,
-        ),
-        (
-            "{\"controller\":null,\"devices\":[],\"events\":[],\"fields\":[{\"bit\":2,\"lock\":false,\"region\":0,\"update\":\"ones\",\"width\":12}],\"firmware\":[[[\"write\",0,2748]]],\"gpe\":{\"base1\":0,\"gpe0\":2,\"gpe1\":0},\"regions\":[{\"bytes\":[195,188],\"kind\":\"memory\",\"len\":2}],\"schedule\":[],\"version\":1,\"workers\":1}",
-            "f0 write 00:0000 F3\nf0 write 00:0001 EA\n",
-            2,
-        ),
-        (
-            "{\"controller\":null,\"devices\":[],\"events\":[],\"fields\":[{\"bit\":2,\"lock\":false,\"region\":0,\"update\":\"zeros\",\"width\":12}],\"firmware\":[[[\"write\",0,2748]]],\"gpe\":{\"base1\":0,\"gpe0\":2,\"gpe1\":0},\"regions\":[{\"bytes\":[195,188],\"kind\":\"memory\",\"len\":2}],\"schedule\":[],\"version\":1,\"workers\":1}",
-            "f0 write 00:0000 F0\nf0 write 00:0001 2A\n",
-            2,
-        ),
-        (
-            "{\"controller\":null,\"devices\":[],\"events\":[],\"fields\":[{\"bit\":0,\"lock\":false,\"region\":0,\"update\":\"preserve\",\"width\":8}],\"firmware\":[[[\"read\",0],[\"skip\",5,1],[\"write\",0,1],[\"skip\",4,1],[\"write\",0,2]]],\"gpe\":{\"base1\":0,\"gpe0\":2,\"gpe1\":0},\"regions\":[{\"bytes\":[5],\"kind\":\"memory\",\"len\":1}],\"schedule\":[],\"version\":1,\"workers\":1}",
-            "f0 read 00:0000 05\nf0 write 00:0000 01\n",
-            2,
-        ),
-        (
-            "{\"controller\":null,\"devices\":[],\"events\":[],\"fields\":[],\"firmware\":[],\"gpe\":{\"base1\":0,\"gpe0\":2,\"gpe1\":0},\"regions\":[],\"schedule\":[],\"version\":1,\"workers\":2}",
-            "",
-            0,
-        ),
-        (
-            "{\"controller\":null,\"devices\":[],\"events\":[],\"fields\":[{\"bit\":0,\"lock\":false,\"region\":0,\"update\":\"preserve\",\"width\":8},{\"bit\":0,\"lock\":false,\"region\":1,\"update\":\"preserve\",\"width\":8}],\"firmware\":[[[\"write\",0,1],[\"read\",1]],[],[[\"add\",1,1],[\"read\",0]]],\"gpe\":{\"base1\":0,\"gpe0\":2,\"gpe1\":0},\"regions\":[{\"bytes\":[],\"kind\":\"memory\",\"len\":1},{\"bytes\":[7],\"kind\":\"memory\",\"len\":1}],\"schedule\":[],\"version\":1,\"workers\":1}",
-            "f0 write 00:0000 01\nf2 read 01:0000 07\nf0 read 01:0000 07\nf2 write 01:0000 08\nf2 read 00:0000 01\n",
-            5,
-        ),
-    ];
-    for (description, lines, count) in cases {
-        let outcome = run(rt.alloc(), description.as_bytes(), NO_FAULTS)?;
-        assert_eq!(rt; outcome.status, Status::Ok, "{description}");
-        let log = format!(in rt.alloc(); "machine {description}\n{lines}rest {count}\n")?;
-        assert!(rt; outcome.held.as_slice() == log.as_bytes(), "{description}");
     }
     Ok(())
 }
@@ -456,43 +329,6 @@ fn a_log_of_4096_entries_reaches_the_sink_in_few_writes(rt: HostRuntime) -> Resu
     Ok(())
 }
 
-/// A machine with a level event whose handler writes a byte 4,096 times. The firmware asserts it fifteen times, each of
-/// which brings up to 17 runs of 4,099 entries, and then writes so many times: the weight is 15 + 15 * 17 * 4,099 and the
-/// writes.
-fn heavy(alloc: Global, writes: u32) -> Result<String, AllocError> {
-    let mut text = String::from_str(
-        alloc,
-        "{\"controller\":null,\"devices\":[],\"events\":[{\"name\":\"_L00\",\"refs\":1,\"script\":[[\"write\",0,1]",
-    )?;
-    for _ in 1..4096 {
-        text.push_str(",[\"write\",0,1]")?;
-    }
-    text.push_str(
-        "]}],\"fields\":[{\"bit\":0,\"lock\":false,\"region\":0,\"update\":\"preserve\",\"width\":8}],\"firmware\":[[[\"assert\",\"g00\"]",
-    )?;
-    for _ in 1..15 {
-        text.push_str(",[\"assert\",\"g00\"]")?;
-    }
-    for _ in 0..writes {
-        text.push_str(",[\"write\",0,2]")?;
-    }
-    text.push_str(
-        "]],\"gpe\":{\"base1\":0,\"gpe0\":2,\"gpe1\":0},\"regions\":[{\"bytes\":[],\"kind\":\"memory\",\"len\":1}],\"schedule\":[],\"version\":1,\"workers\":1}",
-    )?;
-    Ok(text)
-}
-
-#[test]
-fn a_weight_above_the_limit_is_told(rt: HostRuntime) -> Result<(), Fail> {
-    for (writes, status) in [(3316, Status::NotBuilt), (3317, Status::TooLong(1_048_577))] {
-        let description = heavy(rt.alloc(), writes)?;
-        let outcome = run(rt.alloc(), description.as_bytes(), NO_FAULTS)?;
-        assert_eq!(rt; outcome.status, status);
-        assert_eq!(rt; outcome.writes, 0);
-    }
-    Ok(())
-}
-
 #[test]
 fn each_status_has_its_code_and_name(rt: HostRuntime) -> Result<(), Fail> {
     let bad = BadMachine {
@@ -513,7 +349,6 @@ fn each_status_has_its_code_and_name(rt: HostRuntime) -> Result<(), Fail> {
             "BadMachine TooManyEvents Controller 4294967295 12",
         ),
         (Status::TooLong(1_048_577), 4, "TooLong 1048577"),
-        (Status::NotBuilt, 12, "NotBuilt"),
         (Status::ReadFault, 5, "ReadFault"),
         (Status::WriteFault, 6, "WriteFault"),
         (Status::Memory, 7, "Memory"),

@@ -15,7 +15,7 @@ use std::process::ExitCode;
 const LIMIT: usize = 8_388_608;
 
 /// The room of a log, in bytes.
-const ROOM: usize = 4_194_304;
+const ROOM: usize = 33_554_432;
 
 fn main(rt: HostRuntime) -> io::Result<ExitCode> {
     let mut source = StdSource::new(rt.reader());
