@@ -1,11 +1,11 @@
 -- The actors of a machine in a row, and the core that they stand for beside a world of one thread.
-use Rattle.std.specs.Prelude.{◌≡◌, false, List, [], ◌∷◌, if◌then◌else◌}
+use Rattle.std.specs.Prelude.{List, [], ◌∷◌, if◌then◌else◌}
 use Rattle.acpi_regs.specs.declared.actor.Actor.{Actor}
 use Rattle.acpi_regs.specs.declared.actor.Actor.TheVariants as actor
 use Rattle.acpi_regs.specs.Actor.{same_actor}
 use Rattle.acpi_regs.specs.Core.{Core}
-use Rattle.acpi_regs.specs.CoreEvents.{is_holding}
 use Rattle.acpi_regs.specs.Phases.{Free, Lock, Phase, Pulsed, first_phase}
+use Rattle.core_laws.specs.Gives.{NobodyHolds}
 use Rattle.core_laws.specs.Sound.{Sound}
 use Rattle.machine_desc.specs.Machine.{MachineData}
 use Rattle.sci_threads.specs.declared.any.AnyActor.{AnyActor}
@@ -41,4 +41,4 @@ core_in w actors = core_of w (phases_of actors)
 -- the core is sound, and nobody is in the midst of a collect
 pub record IsSound (m : MachineData) (c : Core) : Type 0 where
   pub sound : Sound m c
-  pub nobody : (a : Actor) → is_holding (c.phases a) ≡ false
+  pub nobody : NobodyHolds c

@@ -1,11 +1,9 @@
-ghost use Rattle.std.specs.Prelude.{◌≡◌, ◌<◌, false, All, IfOk, map, Some, slice_get};
+ghost use Rattle.std.specs.Prelude.{◌≡◌, false, IfOk, map};
 ghost use Rattle.acpi_regs.specs.declared.actor.Actor.{Actor};
 ghost use Rattle.acpi_regs.specs.Phases.{Phase, first_phase, put};
 ghost use Rattle.machine_desc.specs.Actors.{actors_of};
-ghost use Rattle.machine_desc.specs.Kept.{counts_in};
-ghost use Rattle.machine_desc.specs.Rules.{has_actor};
 ghost use Rattle.machine_history.specs.Steps.{gives};
-ghost use Rattle.sci_threads.specs.Actors.{stands, who};
+ghost use Rattle.sci_threads.specs.Actors.{phases_of, stands, who};
 ghost use Rattle.world.specs.Duties.{AreLatchable};
 ghost use Rattle.world.specs.Serial.{core_of, pins_of};
 ghost use Rattle.world.specs.Stepping.{after_step, is_stepped};
@@ -57,7 +55,7 @@ impl AnyActor {
         ensures machine { world.new.board.machine ≡ machine.now }
         ensures gives { (phases : Actor → Phase) → phases (who self.old) ≡ stands self.old
             → gives machine.now (core_of world.old phases) (who self.old)
-                ≡ after_step result (core_of world.new (put (who self.old) (stands self.new) phases)) }
+            ≡ after_step result (core_of world.new (put (who self.old) (stands self.new) phases)) }
         ensures stays { is_stepped result ≡ false → ((phases : Actor → Phase) → core_of world.new phases ≡ core_of world.old phases)
             × (stands self.new ≡ stands self.old) }
     {
@@ -75,7 +73,7 @@ impl AnyActor {
 /// All actors of a machine at their start, in the order in which they are served.
 pub fn all_actors(alloc: Global, machine: &Machine) -> Result<Vec<AnyActor>, Memory>
     ensures names { IfOk result (λ actors. map who actors.items ≡ actors_of machine.now) }
-    ensures first { IfOk result (λ actors. All (λ x. stands x ≡ first_phase (who x)) actors.items) }
+    ensures first { IfOk result (λ actors. phases_of actors.items ≡ first_phase) }
 {
     let count = machine.actors();
     let mut actors = Vec::with_capacity(alloc, usize::from(count))?;

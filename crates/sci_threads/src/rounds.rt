@@ -10,11 +10,17 @@ ghost use Rattle.sci_threads.specs.Rounds.{Begins, RowDone, StepDone};
 
 use crate::AnyActor;
 use acpi_regs::Actor;
+use core_laws::laws::law_gives;
 use machine_desc::Machine;
 use world::{SerialWorld, StepOutcome};
 
 /// One step of the actor at a place.
-fn step_at(world: &mut SerialWorld, machine: &Machine, actors: &mut Vec<AnyActor>, k: usize) -> StepOutcome
+fn step_at(
+    world: &mut SerialWorld,
+    machine: &Machine,
+    actors: &mut Vec<AnyActor>,
+    k: usize,
+) -> StepOutcome
     requires machine { world.old.board.machine ≡ machine.now }
     requires actors { map who actors.old.items ≡ actors_of machine.now }
     requires sound { IsSound machine.now (core_in world.old actors.old.items) }
@@ -26,6 +32,7 @@ fn step_at(world: &mut SerialWorld, machine: &Machine, actors: &mut Vec<AnyActor
         → StepDone machine.now a (core_in world.old actors.old.items) result (core_in world.new actors.new.items) }
 {
     machine.law_rules();
+    law_gives();
     actors[k].step(machine, world)
 }
 
@@ -66,6 +73,7 @@ pub fn drain(world: &mut SerialWorld, machine: &Machine, actors: &mut Vec<AnyAct
 }
 
 /// The place of an actor of the machine in the order in which actors are served.
+#[tactic(auto, using(crate::proofs::Placing::worker_place, crate::proofs::Placing::ec_place, crate::proofs::Placing::device_place, crate::proofs::Placing::firmware_place))]
 fn place_of(machine: &Machine, actor: Actor) -> usize
     requires { has_actor (counts_in machine.now) actor ≡ true }
     ensures { slice_get (actors_of machine.now) result ≡ Some actor }
