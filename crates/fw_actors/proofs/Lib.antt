@@ -1,0 +1,2 @@
+pub mod CtlEntries
+pub mod Giving
