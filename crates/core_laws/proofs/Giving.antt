@@ -63,7 +63,7 @@ abbrev Fine : Phase → Option Deed → Type 0
 Fine p None = Unit {0}
 Fine p (Some d) = (may_add p d ≡ true) × (is_latch d ≡ false)
 
-abbrev Good : MachineData → List Entry → Actor → Phase → Option Deed → Type 0
+abbrev pub Good : MachineData → List Entry → Actor → Phase → Option Deed → Type 0
 Good m past a p None = Unit {0}
 Good m past a p (Some d) = (may m past a d ≡ true) × (may_add p d ≡ true) × (is_latch d ≡ false)
 
@@ -166,7 +166,7 @@ good_ctl m past a =
 -- ---- what the next step is
 
 -- the step is one that this phase allows, and its entry is good
-abbrev Next : MachineData → Core → Actor → Phase → Option Step → Type 0
+abbrev pub Next : MachineData → Core → Actor → Phase → Option Step → Type 0
 Next m c a p None = Unit {0}
 Next m c a p (Some Attempts) = (l : Option ℕ) × (p ≡ Lock (phase.Seeking l))
 Next m c a p (Some Releases) = p ≡ Lock phase.Quit
@@ -195,7 +195,7 @@ next_host m c a host = at (steps.is_empty (events_of c.pins))
     at true = next_adds m c a Free (host_entry m (past_in c) a) refl (good_host m (past_in c) a)
     at false = (host, refl)
 
-next_is : (m : MachineData) (c : Core) (a : Actor) (p : Phase) → Next m c a p (next_step m c.pins (past_in c) a p)
+pub next_is : (m : MachineData) (c : Core) (a : Actor) (p : Phase) → Next m c a p (next_step m c.pins (past_in c) a p)
 next_is m c a (Lock p) = next_lock m c a p
 next_is m c actor.Int Free = next_host m c actor.Int refl
 next_is m c actor.Poll Free = next_host m c actor.Poll refl

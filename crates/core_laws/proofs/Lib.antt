@@ -1,6 +1,7 @@
 pub mod Asking
 pub mod Deadlock
 pub mod Giving
+pub mod Lessening
 pub mod Pending
 pub mod Ranges
 pub mod Resting

@@ -61,7 +61,7 @@ played_complete m history ok (d, settled, is) =
 
 -- ---- one core
 
-quiet_steps : (m : MachineData) (names : List Actor) (c : Core) → IsQuiet m names c → all_steps m names c ≡ c
+pub quiet_steps : (m : MachineData) (names : List Actor) (c : Core) → IsQuiet m names c → all_steps m names c ≡ c
 quiet_steps m [] c quiet = refl
 quiet_steps m (a ∷ names) c quiet = ap (λ o. all_steps m names (unwrap_or o c)) quiet.0 ∙ quiet_steps m names c quiet.1
 
