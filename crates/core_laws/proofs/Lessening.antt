@@ -1,34 +1,27 @@
 -- Each step lessens what is to come; so rounds come to an end.
-use Rattle.std.proofs.Common.{ℕ, zero, suc, ◌+◌, ◌-◌, ◌*◌, ◌<◌, ◌≤◌, ◌≡◌, ◌==◌, ◌&&◌, ◌⊎◌, inl, inr, Bool, true, false, not, cond, List, [], ◌∷◌, ◌++◌, length, map, unwrap_or, slice_get, option_map, Option, Some, None, is_some, refl, sym, ap, ◌∙◌, subst, arith, if◌then◌else◌}
+use Rattle.std.proofs.Common.{ℕ, zero, suc, ◌+◌, ◌-◌, ◌<◌, ◌≤◌, ◌≡◌, ◌==◌, ◌⊎◌, inl, inr, Bool, true, false, not, List, [], ◌∷◌, ◌++◌, length, map, unwrap_or, slice_get, option_map, Option, Some, None, is_some, refl, sym, ap, ◌∙◌, subst, arith, if◌then◌else◌}
 use Rattle.std.proofs.lemmas.Bool.{eqb-false, eqb-true, lt-ltb, ltb-true, ne_eqb}
 use Rattle.std.proofs.lemmas.List.{length-append, length-map}
 use Rattle.std.proofs.lemmas.Option.{slice_get_within}
 use Rattle.acpi_regs.specs.declared.actor.Actor.{Actor}
 use Rattle.acpi_regs.specs.declared.actor.Actor.TheVariants as actor
-use Rattle.acpi_regs.specs.declared.actor.Side.{Side}
-use Rattle.acpi_regs.specs.declared.actor.Side.TheVariants as side
 use Rattle.acpi_regs.specs.declared.entry.Deed.{Deed}
-use Rattle.acpi_regs.specs.declared.entry.Entry.{Entry}
 use Rattle.acpi_regs.specs.declared.event.Event.{Event}
 use Rattle.acpi_regs.specs.declared.phase.LockPhase.{LockPhase}
 use Rattle.acpi_regs.specs.declared.phase.LockPhase.TheVariants as phase
-use Rattle.acpi_regs.specs.declared.phase.Pulse.{Pulse}
-use Rattle.acpi_regs.specs.Actor.{same_actor}
 use Rattle.acpi_regs.specs.Core.{Core, events_of}
-use Rattle.acpi_regs.specs.CoreEvents.{is_holding, is_host, is_owned, is_pending, list_of, past_in, pulses_in, tried}
-use Rattle.acpi_regs.specs.CoreSound.{competes, is_kind, lock_phase, sum_below}
-use Rattle.acpi_regs.specs.Phases.{Free, Holding, Lock, Phase, Pulsed, moved, put}
+use Rattle.acpi_regs.specs.CoreEvents.{is_host, is_owned, is_pending, list_of, past_in, pulses_in, tried}
+use Rattle.acpi_regs.specs.CoreSound.{is_kind, lock_phase, sum_below}
+use Rattle.acpi_regs.specs.Phases.{Free, Holding, Lock, Phase, Pulsed, put}
 use Rattle.acpi_regs.proofs.LockActors.{by_cases, put_other, put_self}
-use Rattle.acpi_regs.proofs.LockTurns.{side_of_kind}
 use Rattle.machine_desc.specs.declared.machine.ControllerDesc.{ControllerDesc}
 use Rattle.machine_desc.specs.Actors.{actors_of, numbered, of_controller}
 use Rattle.machine_desc.specs.Kept.{IsMachine, counts_in}
 use Rattle.machine_desc.specs.Machine.{MachineData}
 use Rattle.machine_desc.specs.Rules.{has_actor}
-use Rattle.machine_desc.specs.Weight.{weight_of}
 use Rattle.machine_desc.proofs.Order.{count, numbered_at}
 use Rattle.machine_history.specs.Legal.{Legal}
-use Rattle.machine_history.specs.Played.{IsQuiet, Settles, rounds, stepped}
+use Rattle.machine_history.specs.Played.{IsQuiet, Settles}
 use Rattle.machine_history.specs.Played.{steps as all_steps}
 use Rattle.machine_history.specs.Steps.{Adds, Attempts, Pulses, Releases, Step, Sweeps, adds, gives, happens, host_entry, host_step, lock_step, next_step, pulses, script_entry}
 use Rattle.machine_history.specs.Steps as steps
@@ -36,7 +29,7 @@ use Rattle.machine_history.proofs.Whole.{weight_bounds}
 use Rattle.core_laws.specs.Gives.{NobodyHolds}
 use Rattle.core_laws.specs.Rounds.{owed, owes, to_come}
 use Rattle.core_laws.specs.Sound.{Sound}
-use Rattle.core_laws.proofs.Giving.{Next, gives_events, gives_sound, next_is, stepped_sound, steps_sound}
+use Rattle.core_laws.proofs.Giving.{Next, gives_sound, next_is, stepped_sound, steps_sound}
 use Rattle.core_laws.proofs.Settling.{quiet_steps}
 
 -- ---- a sum in which one part changed
@@ -49,8 +42,8 @@ sum_changed : (f g : ℕ → ℕ) (k n : ℕ) → ((j : ℕ) → (j == k) ≡ fa
 sum_changed f g k zero same less = absurd (omega (arith, less))
 sum_changed f g k (suc n) same less =
     by_cases (n == k) (sum_below g (suc n) + f k ≡ sum_below f (suc n) + g k)
-        (λ is. let e = eqb-true n k is in let rest = sum_apart f g k n same (omega (arith, e)) in let gs = ap g e in let fs = ap f e in omega arith)
-        (λ apart. let rest = sum_changed f g k n same (let ne = eqb-false n k apart in grind (arith, less, ne)) in let here = same n apart in omega arith)
+    (λ is. let e = eqb-true n k is in let rest = sum_apart f g k n same (omega (arith, e)) in let gs = ap g e in let fs = ap f e in omega arith)
+    (λ apart. let rest = sum_changed f g k n same (let ne = eqb-false n k apart in grind (arith, less, ne)) in let here = same n apart in omega arith)
 
 -- ---- what one actor owes
 
@@ -221,11 +214,16 @@ numbered_actors m make n each = actors_by m (numbered make n) (λ k a at. (
 
 all_actors : (m : MachineData) → AreActors m (actors_of m)
 unfolding actors_of
-all_actors m =
-    (refl, (refl, actors-append m (numbered actor.Worker m.workers) _ (numbered_actors m actor.Worker m.workers (λ k less. lt-ltb k m.workers less))
-    (actors-append m (of_controller m.controller) _ (controllers m.controller refl)
-    (actors-append m (numbered actor.Device (length m.devices)) _ (numbered_actors m actor.Device (length m.devices) (λ k less. lt-ltb k (length m.devices) less))
-    (numbered_actors m actor.Firmware (length m.firmware) (λ k less. lt-ltb k (length m.firmware) less))))))
+all_actors m = (
+  refl,
+  (
+    refl,
+    actors-append m (numbered actor.Worker m.workers) _ (numbered_actors m actor.Worker m.workers (λ k less. lt-ltb k m.workers less))
+        (actors-append m (of_controller m.controller) _ (controllers m.controller refl)
+        (actors-append m (numbered actor.Device (length m.devices)) _ (numbered_actors m actor.Device (length m.devices) (λ k less. lt-ltb k (length m.devices) less))
+        (numbered_actors m actor.Firmware (length m.firmware) (λ k less. lt-ltb k (length m.firmware) less)))),
+  ),
+)
   where
     controllers : (o : Option ControllerDesc) → m.controller ≡ o → AreActors m (of_controller o)
     controllers None is = tt

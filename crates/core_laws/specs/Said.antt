@@ -1,15 +1,13 @@
 -- What a sound core says of its actors, in sentences: who holds the lock's word, what each phase tells of the entries, why an
 -- actor waits, and how many signals there are (ACPI 6.5, section 5.2.10.1).
-use Rattle.std.specs.Prelude.{ℕ, ◌≡◌, ◌≤◌, ◌+◌, ◌*◌, ◌==◌, ◌&&◌, ◌⊎◌, not, Bool, true, false, List, [], ◌∷◌, Option, Some, None, if◌then◌else◌}
+use Rattle.std.specs.Prelude.{ℕ, ◌≡◌, ◌≤◌, ◌+◌, ◌*◌, ◌==◌, ◌&&◌, ◌⊎◌, not, Bool, true, false, List, [], ◌∷◌, Some, if◌then◌else◌}
 use Rattle.acpi_regs.specs.declared.actor.Actor.{Actor}
-use Rattle.acpi_regs.specs.declared.actor.Actor.TheVariants as actor
 use Rattle.acpi_regs.specs.declared.actor.Side.{Side}
-use Rattle.acpi_regs.specs.declared.entry.Entry.{Entry}
 use Rattle.acpi_regs.specs.declared.phase.LockPhase.{LockPhase}
 use Rattle.acpi_regs.specs.declared.phase.LockPhase.TheVariants as phase
 use Rattle.acpi_regs.specs.Actor.{same_actor}
 use Rattle.acpi_regs.specs.Core.{Core}
-use Rattle.acpi_regs.specs.CoreEvents.{in_hand, is_holding, one, past_in}
+use Rattle.acpi_regs.specs.CoreEvents.{is_holding, one, past_in}
 use Rattle.acpi_regs.specs.CoreSound.{competes, holds, is_signalled, is_word, lock_phase, tells, waits}
 use Rattle.acpi_regs.specs.Lock.{busies, has_disowned, has_owned, is_busy, is_someone, leaves, other, owner, seeker}
 use Rattle.acpi_regs.specs.Phases.{Lock, Phase, is_gone, is_idle, is_marked, is_owning}
