@@ -10,4 +10,5 @@ pub mod Settling
 pub mod Stalls
 pub mod Starting
 pub mod Suits
+pub mod Unsaying
 pub mod Steps

@@ -24,17 +24,19 @@ ghost use Rattle.core_laws.specs.Codes.{IsFront, started_codes};
 ghost use Rattle.core_laws.specs.CoreSteps.{AllHappen, EachLegal, MayHappen, after, happens};
 ghost use Rattle.core_laws.specs.Gives.{IsEvents, NobodyHolds};
 ghost use Rattle.core_laws.specs.Rounds.{to_come};
-ghost use Rattle.core_laws.specs.Said.{AsSaid, holds_word};
+ghost use Rattle.core_laws.specs.Said.{SoundAsSaid, holds_word};
 ghost use Rattle.core_laws.specs.Sound.{Sound};
 ghost use Rattle.core_laws.specs.Stuck.{IsStuck};
 
 /// The first core of a machine is sound, and each event that may happen leads from a sound core to a sound one. So does every
-/// list of events, of any actors in any order.
+/// list of events, of any actors in any order. A core is sound exactly where the sentences on its history, its phases, its lock
+/// and its pulses hold.
 pub fn law_sound()
     ensures first { (m : MachineData) → Sound m first_core }
     ensures step { (m : MachineData) (c : Core) (e : CoreEvent) → IsMachine m → Sound m c → MayHappen m c e → Sound m (happens m c e) }
     ensures all { (m : MachineData) (c : Core) (events : List CoreEvent) → IsMachine m → Sound m c → AllHappen m c events → Sound m (after m c events) }
-    ensures said { (m : MachineData) (c : Core) → Sound m c → AsSaid c }
+    ensures said { (m : MachineData) (c : Core) → Sound m c → SoundAsSaid m c }
+    ensures unsaid { (m : MachineData) (c : Core) → IsMachine m → SoundAsSaid m c → Sound m c }
 {}
 
 /// What one step of an actor does to a core is a list of events of that core, and nobody holds the turn between two steps. So
