@@ -1,6 +1,6 @@
 -- Where codes wait, the controller's event has status, or a query was made whose Out has not come: from the table of entries
 -- alone.
-use Rattle.std.proofs.Common.{ℕ, zero, suc, ◌+◌, ◌<◌, ◌≤◌, ◌≡◌, ◌==◌, ◌&&◌, ◌||◌, ◌⊎◌, inl, inr, Bool, true, false, not, cond, nat_lt, List, [], ◌∷◌, ◌++◌, length, drop, slice_get, unwrap_or, Option, Some, None, is_some, is_none, refl, sym, ap, ◌∙◌, subst, arith, if◌then◌else◌}
+use Rattle.std.proofs.Common.{ℕ, zero, suc, ◌<◌, ◌≤◌, ◌≡◌, ◌==◌, ◌&&◌, ◌⊎◌, inl, inr, Bool, true, false, not, cond, nat_lt, List, [], ◌∷◌, ◌++◌, length, drop, slice_get, Option, Some, None, is_some, refl, sym, ap, ◌∙◌, subst, arith, if◌then◌else◌}
 use Rattle.std.proofs.lemmas.Bool.{and_parts, eqb-false, eqb-true, lt-ltb, or_right}
 use Rattle.acpi_regs.specs.declared.actor.Actor.{Actor}
 use Rattle.acpi_regs.specs.declared.actor.Actor.TheVariants as actor
@@ -17,7 +17,6 @@ use Rattle.acpi_regs.specs.declared.event.Event.{Event}
 use Rattle.acpi_regs.specs.Actor.{same_actor, stands_on}
 use Rattle.acpi_regs.specs.CoreEvents.{entry}
 use Rattle.acpi_regs.specs.Event.{gbl, same_event}
-use Rattle.ec_driver.specs.declared.wire.Move.{Move}
 use Rattle.ec_driver.specs.declared.wire.Move.TheVariants as move
 use Rattle.ec_driver.specs.Wire.{carried, wire}
 use Rattle.event_chip.specs.declared.state.Touch.{Touch}
@@ -25,7 +24,7 @@ use Rattle.event_chip.specs.declared.state.Touch.TheVariants as touch
 use Rattle.event_chip.specs.State.{is_level}
 use Rattle.handler_script.specs.declared.act.Act.{Act}
 use Rattle.handler_script.specs.declared.act.Act.TheVariants as act
-use Rattle.handler_script.specs.Plan.{Plan, End, next_act, plan_after, query_plan}
+use Rattle.handler_script.specs.Plan.{Plan, next_act, plan_after, query_plan}
 use Rattle.machine_desc.specs.declared.machine.ControllerDesc.{ControllerDesc}
 use Rattle.machine_desc.specs.Kept.{IsMachine, event_of_controller, own_event}
 use Rattle.machine_desc.specs.Machine.{MachineData}
@@ -35,19 +34,18 @@ use Rattle.machine_history.specs.declared.parts.Touched.{Touched}
 use Rattle.machine_history.specs.Events.{does, does_to, is_loud, leaves_codes, status, touch_of, touched}
 use Rattle.machine_history.specs.Events as events
 use Rattle.machine_history.specs.Jobs.{and_job, claimed_job, event_ended, is_empty, jobs, made, running, running_after, starts}
-use Rattle.machine_history.specs.Legal.{Allowed, LegalPast, asked, asked_by, is_ctl_move, is_ec, is_firmware, is_host_move, is_next, is_opener, is_worker, may_start, same_number}
-use Rattle.machine_history.specs.Machine.{is_own, is_silent, kind_of, lists, names}
+use Rattle.machine_history.specs.Legal.{Allowed, LegalPast, asked, asked_by, is_ec, is_firmware, is_host_move, is_next}
+use Rattle.machine_history.specs.Machine.{is_silent}
 use Rattle.machine_history.specs.Scripts.{job_plan, left_after, next_of, plan_left}
 use Rattle.machine_history.specs.Values.{blank, next_in, taking_in}
-use Rattle.machine_history.specs.Wire.{Open, asks_code, begun, codes, codes_after, is_query, moved, open_after, open_of, put_out}
-use Rattle.machine_history.proofs.Codes.{Filled}
+use Rattle.machine_history.specs.Wire.{Open, asks_code, begun, codes, is_query, moved, open_after, open_of, put_out}
 use Rattle.machine_history.proofs.JobCounts.{start_parts}
 use Rattle.machine_history.proofs.Keeping.{AsksAt, ask_plain, is_plain, kept, lock_plain, opener_asks, some_asked, start_free}
-use Rattle.machine_history.proofs.Known.{hold, is_none-none, same_actor-true, same_event-self, same_event-true, same_self, some-injective}
+use Rattle.machine_history.proofs.Known.{hold, is_none-none, same_actor-true, same_event-self, same_event-true, same_self}
 use Rattle.machine_history.proofs.Machines.{own_is}
-use Rattle.machine_history.proofs.Queries.{IsOwn, is_out, is_qr_request, next_status, slot_kind, status_by, status_next, unasked}
-use Rattle.machine_history.proofs.Stages.{Follows, Stage, follows_own, is_trying_at, stage}
-use Rattle.machine_history.proofs.Wires.{ctl_is, host_is}
+use Rattle.machine_history.proofs.Queries.{IsOwn, next_status, slot_kind, status_next, unasked}
+use Rattle.machine_history.proofs.Stages.{Follows, follows_own, is_trying_at, stage}
+use Rattle.machine_history.proofs.Wires.{host_is}
 use Rattle.core_laws.specs.Sound.{CodesSound, IsAsked, IsBeforeOut, IsEarly, OwnHasStatus, asking}
 use Rattle.core_laws.proofs.Suits.{next_suits}
 

@@ -1,6 +1,6 @@
 -- A sound core in which no actor has a step has a complete history.
-use Rattle.std.proofs.Common.{ℕ, zero, suc, ◌+◌, ◌<◌, ◌≤◌, ◌≡◌, ◌==◌, ◌&&◌, ◌||◌, ◌⊎◌, inl, inr, Bool, true, false, not, cond, nat_lt, List, [], ◌∷◌, ◌++◌, length, take, reverse, slice_get, unwrap_or, option_map, Option, Some, None, is_some, is_none, refl, sym, ap, ◌∙◌, subst, arith, if◌then◌else◌}
-use Rattle.std.proofs.lemmas.Bool.{and_from, and_parts, eq-eqb, eqb-true, lt-ltb, ltb-true, or_left}
+use Rattle.std.proofs.Common.{ℕ, zero, suc, ◌<◌, ◌≤◌, ◌≡◌, ◌&&◌, ◌||◌, Bool, true, false, not, cond, List, [], ◌∷◌, length, slice_get, option_map, Option, Some, None, is_some, refl, sym, ap, ◌∙◌, subst, arith, if◌then◌else◌}
+use Rattle.std.proofs.lemmas.Bool.{and_from, and_parts, eq-eqb}
 use Rattle.std.proofs.lemmas.List.{length-append}
 use Rattle.acpi_regs.specs.declared.actor.Actor.{Actor}
 use Rattle.acpi_regs.specs.declared.actor.Actor.TheVariants as actor
@@ -17,15 +17,14 @@ use Rattle.acpi_regs.specs.declared.entry.Request.TheVariants as request
 use Rattle.acpi_regs.specs.declared.event.Event.{Event}
 use Rattle.acpi_regs.specs.declared.phase.LockPhase.{LockPhase}
 use Rattle.acpi_regs.specs.declared.phase.LockPhase.TheVariants as phase
-use Rattle.acpi_regs.specs.declared.phase.Pulse.{Pulse}
-use Rattle.acpi_regs.specs.Actor.{is_side, same_actor, side_of, stands_on}
+use Rattle.acpi_regs.specs.Actor.{same_actor, stands_on}
 use Rattle.acpi_regs.specs.Core.{Core, events_of}
-use Rattle.acpi_regs.specs.CoreEvents.{entry, in_hand, is_holding, list_of, one, past_in, pulses_in}
-use Rattle.acpi_regs.specs.CoreSound.{Fits, IsStart, all_clear, all_pulses, competes, half, holds, is_kind, is_signalled, latches, lock_phase, lock_phases, phase_at, sum_below, tells, times, times_pulsed, waits}
-use Rattle.acpi_regs.specs.Event.{event_rank, gbl, same_event}
-use Rattle.acpi_regs.specs.Lock.{busies, gbl_status, has_disowned, has_owned, is_busy, is_someone, leaves, other, owner, seeker, seeker_after, wake}
-use Rattle.acpi_regs.specs.Phases.{Free, Holding, Lock, Phase, Pulsed, allows, is_gone, is_idle, is_marked, is_owning}
-use Rattle.acpi_regs.proofs.LockActors.{actor_true, by_cases, someone_is, someone_self}
+use Rattle.acpi_regs.specs.CoreEvents.{entry, is_holding, one, past_in}
+use Rattle.acpi_regs.specs.CoreSound.{Fits, competes, is_kind, lock_phase, lock_phases, tells, times}
+use Rattle.acpi_regs.specs.Event.{event_rank, same_event}
+use Rattle.acpi_regs.specs.Lock.{has_disowned, has_owned, is_busy, is_someone, owner, seeker, seeker_after}
+use Rattle.acpi_regs.specs.Phases.{Free, Holding, Lock, Phase, Pulsed, is_idle}
+use Rattle.acpi_regs.proofs.LockActors.{actor_true, someone_self}
 use Rattle.acpi_regs.proofs.LockSteps.{seeker_at}
 use Rattle.acpi_regs.proofs.Pins.{event_self, times_of}
 use Rattle.ec_driver.specs.declared.wire.Move.{Move}
@@ -34,36 +33,26 @@ use Rattle.ec_driver.specs.Driver.{effect_in, host_of}
 use Rattle.ec_driver.specs.Wire.{carried, wire}
 use Rattle.handler_script.specs.declared.act.Act.{Act}
 use Rattle.handler_script.specs.declared.act.Act.TheVariants as act
-use Rattle.handler_script.specs.Locked.{Locked}
-use Rattle.handler_script.specs.Plan.{End, Plan, next_act}
-use Rattle.machine_desc.specs.Kept.{IsMachine, counts_in, own_event}
+use Rattle.machine_desc.specs.Kept.{IsMachine, counts_in}
 use Rattle.machine_desc.specs.Machine.{MachineData}
 use Rattle.machine_desc.specs.Rules.{has_actor}
-use Rattle.machine_history.specs.Complete.{Complete, Rest}
-use Rattle.machine_history.specs.Events.{pending, status}
-use Rattle.machine_history.specs.Events as history
-use Rattle.machine_history.specs.Jobs.{is_empty, jobs, running, running_after, starts}
-use Rattle.machine_history.specs.Legal.{Allowed, LegalPast, conditions, ctl_row, is_ctl_move, is_host_move, is_int, has_quit, is_ec, is_firmware, is_host, is_opener, is_seeker, is_taking, is_trying, is_worker, may_make, may_start, may_step, runs_scripts, same_number, seeks, unsought, woken_on}
-use Rattle.machine_history.specs.Machine as machine
-use Rattle.machine_history.specs.Played.{IsQuiet}
-use Rattle.machine_history.specs.Scripts.{next_of, plan_left}
-use Rattle.machine_history.specs.Sentences.{FrontOfWire, moves}
+use Rattle.machine_history.specs.Events.{pending}
+use Rattle.machine_history.specs.Jobs.{running, running_after}
+use Rattle.machine_history.specs.Legal.{Allowed, LegalPast, conditions, ctl_row, is_ctl_move, is_host_move, is_int, has_quit, is_firmware, is_host, is_opener, is_seeker, is_taking, is_trying, is_worker, may_step, runs_scripts}
+use Rattle.machine_history.specs.Scripts.{next_of}
+use Rattle.machine_history.specs.Sentences.{moves}
 use Rattle.machine_history.specs.Steps.{Attempts, Releases, Step, Sweeps, adds, at_act, at_script, between, ctl_entry, ctl_move, first, first_pending, gives, happens, host_entry, host_move, host_step, lock_step, next_step, otherwise, pulses, script_entry, waiting, where_allowed, where_may}
 use Rattle.machine_history.specs.Steps as steps
 use Rattle.machine_history.specs.Values.{blank, next_in, next_move, taking, taking_in}
-use Rattle.machine_history.specs.Wire.{Open, codes, due, moved, open_after, open_of, put_out}
+use Rattle.machine_history.specs.Wire.{Open, due, moved, open_after, open_of, put_out}
 use Rattle.machine_history.proofs.Fronts.{front_of_wire}
 use Rattle.machine_history.proofs.Keeping.{AsksAt, kept}
-use Rattle.machine_history.proofs.Known.{AllHold, hold, is_none-none, same_self, some-injective}
-use Rattle.machine_history.proofs.LastEntries.{gbl_is_status}
-use Rattle.machine_history.proofs.Owning.{ended, guarded}
-use Rattle.machine_history.proofs.Stages.{is_owned, is_trying_at, stage}
+use Rattle.machine_history.proofs.Known.{AllHold, hold, same_self, some-injective}
+use Rattle.machine_history.proofs.Stages.{is_trying_at, stage}
 use Rattle.core_laws.specs.Sound.{Sound}
 use Rattle.core_laws.specs.Stuck.{IsStuck}
-use Rattle.core_laws.proofs.Asking.{few_starts}
-use Rattle.core_laws.proofs.Giving.{latches_same}
-use Rattle.core_laws.proofs.Pending.{always_pending, gbl_always, own_always, pending_known}
-use Rattle.core_laws.proofs.Stalls.{Makes, Plain, Ready, cannot, firmware_by, idle_words, keeps, map_none, next_locked, no_act, not_allowed, not_first, not_ready, not_then, owning_words, plain_map, plain_otherwise, plain_where, ready_act, runs_has, same_effect-self, same_host-self, same_nat, same_number-self, trying_words, unquit_idle, unquit_owned, worker_runs}
+use Rattle.core_laws.proofs.Pending.{pending_known}
+use Rattle.core_laws.proofs.Stalls.{Plain, cannot, firmware_by, keeps, map_none, not_allowed, not_first, not_then, owning_words, plain_map, plain_otherwise, plain_where, runs_has, same_host-self, same_nat, same_number-self, trying_words, unquit_idle, unquit_owned}
 use Rattle.core_laws.proofs.Suits.{next_suits}
 
 both : (x : Bool) → x ≡ true → x ≡ false → ⊥
@@ -414,7 +403,7 @@ module _ (m : MachineData) (ok : IsMachine m) (c : Core) (h : Sound m c) (stuck 
         let whole : o.made ≡ length (wire o.asks 0) = omega arith in
         let takes : taking m past ≡ Some (carried o.asks (blank m past o)) = ap (taking_in m past) is ∙ ap (λ b. cond b (Some (carried o.asks (blank m past o))) None) (eq-eqb o.made (length (wire o.asks 0)) whole) in
         cannot m past o.by (option_map deed.Take (taking m past)) (deed.Take (carried o.asks (blank m past o))) take_none (ap (option_map deed.Take) takes)
-            (opener_runs, (keeps (has_quit m past o.by) false opener_still.1 refl, (ap (is_opener o.by) is ∙ same_self o.by, (ap is_some takes, (ap (is_taking (carried o.asks (blank m past o))) takes ∙ same_number-self (carried o.asks (blank m past o)), tt)))))
+        (opener_runs, (keeps (has_quit m past o.by) false opener_still.1 refl, (ap (is_opener o.by) is ∙ same_self o.by, (ap is_some takes, (ap (is_taking (carried o.asks (blank m past o))) takes ∙ same_number-self (carried o.asks (blank m past o)), tt)))))
 
     -- the next move is the host's: polling may make it, or the firmware itself
     host_not : (g : HostMove) → next_move m past ≡ Some (move.Host g) → ⊥
@@ -433,18 +422,18 @@ module _ (m : MachineData) (ok : IsMachine m) (c : Core) (h : Sound m c) (stuck 
         side_of_opener : (b : Bool) → stands_on side.Os o.by ≡ b → ⊥
         side_of_opener true os =
             cannot m past actor.Poll (option_map deed.Step (host_move m past)) (deed.Step g) (not_first (where_may m past actor.Poll (option_map deed.Step (host_move m past))) (where_may m past actor.Poll (option_map deed.Claim (first_pending m past))) poll_still.1) moves_next
-                (ap (λ x. may_step m x actor.Poll) is ∙ ap (λ b. cond b true (is_firmware m actor.Poll && same_actor actor.Poll o.by)) os, (keeps (has_quit m past actor.Poll) false refl refl, (ap is_some is, (wired, (refl, tt)))))
+            (ap (λ x. may_step m x actor.Poll) is ∙ ap (λ b. cond b true (is_firmware m actor.Poll && same_actor actor.Poll o.by)) os, (keeps (has_quit m past actor.Poll) false refl refl, (ap is_some is, (wired, (refl, tt)))))
         side_of_opener false other_side =
             let firmware = firmware_by m o.by opener_runs other_side in
             cannot m past o.by (option_map deed.Step (host_move m past)) (deed.Step g) step_none moves_next
-                (ap (λ x. may_step m x o.by) is ∙ (ap (λ b. cond b (is_host o.by) (is_firmware m o.by && same_actor o.by o.by)) other_side ∙ and_from (is_firmware m o.by) (same_actor o.by o.by) firmware (same_self o.by)), (keeps (has_quit m past o.by) false opener_still.1 refl, (ap is_some is, (wired, (not_int o.by (due m past) firmware, tt)))))
+            (ap (λ x. may_step m x o.by) is ∙ (ap (λ b. cond b (is_host o.by) (is_firmware m o.by && same_actor o.by o.by)) other_side ∙ and_from (is_firmware m o.by) (same_actor o.by o.by) firmware (same_self o.by)), (keeps (has_quit m past o.by) false opener_still.1 refl, (ap is_some is, (wired, (not_int o.by (due m past) firmware, tt)))))
 
     -- the next move is the controller's
     ctl_not : (e : Effect) → next_move m past ≡ Some (move.Ctl e) → ⊥
     ctl_not e next =
         let has = (next_suits m ok past o.by (act.Ask o.asks) h.legal opener_next).1 in
         cannot m past actor.Ec (option_map deed.Ctl (ctl_move m past)) (deed.Ctl e) (not_first (where_may m past actor.Ec (option_map deed.Ctl (ctl_move m past))) (where_may m past actor.Ec (Some (deed.Ctl effect.Calm))) (ec_still has)) (ap (λ x. option_map deed.Ctl (effect_in x)) next)
-            (has, (keeps (has_quit m past actor.Ec) false refl refl, rows e next))
+        (has, (keeps (has_quit m past actor.Ec) false refl refl, rows e next))
       where
         rows : (e : Effect) → next_move m past ≡ Some (move.Ctl e) → AllHold (ctl_row m past e)
         rows effect.Calm next = absurd (no_calm o.asks (blank m past o) o.made (sym next_is ∙ next))

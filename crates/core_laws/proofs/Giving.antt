@@ -1,5 +1,5 @@
 -- What a step of an actor does is a list of core events.
-use Rattle.std.proofs.Common.{ℕ, zero, suc, ◌+◌, ◌/◌, ◌<◌, ◌≤◌, ◌≡◌, ◌==◌, ◌&&◌, ◌||◌, Bool, true, false, not, cond, nat_lt, List, [], ◌∷◌, ◌++◌, length, map, reverse, slice_get, sum_by, option_map, unwrap_or, Option, Some, None, is_none, refl, sym, ap, ◌∙◌, subst, arith, if◌then◌else◌}
+use Rattle.std.proofs.Common.{ℕ, zero, suc, ◌+◌, ◌<◌, ◌≤◌, ◌≡◌, ◌==◌, ◌&&◌, ◌||◌, Bool, true, false, not, cond, List, [], ◌∷◌, ◌++◌, length, map, slice_get, sum_by, option_map, unwrap_or, Option, Some, None, refl, sym, ap, ◌∙◌, subst, arith}
 use Rattle.std.proofs.lemmas.Bool.{eq-eqb, lt-ltb}
 use Rattle.acpi_regs.specs.declared.actor.Actor.{Actor}
 use Rattle.acpi_regs.specs.declared.actor.Actor.TheVariants as actor
@@ -14,9 +14,14 @@ use Rattle.acpi_regs.specs.declared.phase.LockPhase.TheVariants as phase
 use Rattle.acpi_regs.specs.declared.phase.Pulse.{Pulse}
 use Rattle.acpi_regs.specs.Actor.{same_actor}
 use Rattle.acpi_regs.specs.Core.{Core, all_events, event_at, events_below, events_of, first_core, if_in, no_event}
+<<<<<<< HEAD
 use Rattle.acpi_regs.specs.CoreEvents.{Collect, CoreEvent, Exchange, LatchesFirst, Load, OthersFree, Release, Turn, collected, entry, exchanged, freed, has_collected, has_no_latch, in_hand, is_holding, is_host, is_latch, loaded, lock_deeds, may_add, moved_all, moved_in, next_pulse, one, past_in, pulsed, pulses_in, tried, turned}
 use Rattle.facs_word.specs.Word.{acquired}
 use Rattle.acpi_regs.specs.CoreSound.{CoreSound, PinsSound, latches, listed_pulses, times}
+=======
+use Rattle.acpi_regs.specs.CoreEvents.{Collect, CoreEvent, LatchesFirst, OthersFree, Turn, acquired, collected, entry, exchanged, freed, has_collected, has_no_latch, in_hand, is_holding, is_host, is_latch, loaded, lock_deeds, may_add, moved_all, moved_in, next_pulse, one, past_in, pulsed, pulses_in, tried, turned}
+use Rattle.acpi_regs.specs.CoreSound.{PinsSound, latches, listed_pulses, times}
+>>>>>>> 696e61a7ea3d8b269fb5f0ab4852a710a0b18bb7
 use Rattle.acpi_regs.specs.Event.{event_rank, same_event, word_of}
 use Rattle.acpi_regs.specs.Phases.{Free, Holding, Lock, Phase, Pulsed, allows, is_idle, is_lock_deed, put}
 use Rattle.acpi_regs.proofs.Halves.{one_most}
@@ -29,7 +34,7 @@ use Rattle.machine_desc.specs.Kept.{IsMachine}
 use Rattle.machine_desc.specs.Machine.{MachineData}
 use Rattle.machine_history.specs.Events as history
 use Rattle.machine_history.specs.Jobs.{running}
-use Rattle.machine_history.specs.Legal.{Allowed, LegalPast, conditions, has_quit, is_firmware, is_worker, may_make, runs_scripts}
+use Rattle.machine_history.specs.Legal.{Allowed, conditions, has_quit, may_make}
 use Rattle.machine_history.specs.Machine.{pulses_of}
 use Rattle.machine_history.specs.Machine as machine
 use Rattle.machine_history.specs.Played.{Settles, rounds, stepped}
@@ -64,7 +69,7 @@ abbrev Fine : Phase → Option Deed → Type 0
 Fine p None = Unit {0}
 Fine p (Some d) = (may_add p d ≡ true) × (is_latch d ≡ false)
 
-abbrev Good : MachineData → List Entry → Actor → Phase → Option Deed → Type 0
+abbrev pub Good : MachineData → List Entry → Actor → Phase → Option Deed → Type 0
 Good m past a p None = Unit {0}
 Good m past a p (Some d) = (may m past a d ≡ true) × (may_add p d ≡ true) × (is_latch d ≡ false)
 
@@ -167,7 +172,7 @@ good_ctl m past a =
 -- ---- what the next step is
 
 -- the step is one that this phase allows, and its entry is good
-abbrev Next : MachineData → Core → Actor → Phase → Option Step → Type 0
+abbrev pub Next : MachineData → Core → Actor → Phase → Option Step → Type 0
 Next m c a p None = Unit {0}
 Next m c a p (Some Attempts) = (l : Option ℕ) × (p ≡ Lock (phase.Seeking l))
 Next m c a p (Some Releases) = p ≡ Lock phase.Quit
@@ -196,7 +201,7 @@ next_host m c a host = at (steps.is_empty (events_of c.pins))
     at true = next_adds m c a Free (host_entry m (past_in c) a) refl (good_host m (past_in c) a)
     at false = (host, refl)
 
-next_is : (m : MachineData) (c : Core) (a : Actor) (p : Phase) → Next m c a p (next_step m c.pins (past_in c) a p)
+pub next_is : (m : MachineData) (c : Core) (a : Actor) (p : Phase) → Next m c a p (next_step m c.pins (past_in c) a p)
 next_is m c a (Lock p) = next_lock m c a p
 next_is m c actor.Int Free = next_host m c actor.Int refl
 next_is m c actor.Poll Free = next_host m c actor.Poll refl
@@ -511,8 +516,7 @@ Gives m c a s = AllHappen m c (events_in c a s) × (steps.happens c a s ≡ afte
 device_gives : (m : MachineData) (c : Core) (n : Event) (k : ℕ) (ps : List Pulse) → c.phases (actor.Device k) ≡ Pulsed ps → slice_get (pulses m k) (length ps) ≡ Some n → NobodyHolds c → Gives m c (actor.Device k) (Pulses n)
 device_gives m c n k ps at there nobody =
     let next : next_pulse m.devices c k ≡ Some n = ap (λ p. slice_get (pulses m k) (length (pulses_in p))) at ∙ there in
-    let more = subst (λ p. steps.pulsed_more n (not (c.pins n)) p ≡ Pulsed (pulses_in p ++ record { event = n; clear = not (c.pins n) } ∷ [])) (sym at) refl in
-    (
+    let more = subst (λ p. steps.pulsed_more n (not (c.pins n)) p ≡ Pulsed (pulses_in p ++ record { event = n; clear = not (c.pins n) } ∷ [])) (sym at) refl in (
       ((n, next), tt),
       ap (λ p. record c { pins = λ x. c.pins x || same_event x n; phases = put (actor.Device k) p c.phases }) more ∙ sym (ap (pulsed c k) next),
       nobody_put c (actor.Device k) (steps.pulsed_more n (not (c.pins n)) (c.phases (actor.Device k))) (ap is_holding more) nobody,
@@ -521,8 +525,7 @@ device_gives m c n k ps at there nobody =
 step_gives : (m : MachineData) (c : Core) (a : Actor) (s : Step) → PinsSound m.devices c.pins (past_in c) c.phases → NobodyHolds c → Next m c a (c.phases a) (Some s) → Gives m c a s
 step_gives m c a Attempts h nobody next =
     let loaded_phases : Actor → Phase = put a (Lock (phase.Seeking (Some c.word))) c.phases in
-    let self = put_self a (Lock (phase.Seeking (Some c.word))) c.phases in
-    (
+    let self = put_self a (Lock (phase.Seeking (Some c.word))) c.phases in (
       (next, ((c.word, self), tt)),
       sym (attempt_is c a c.word refl loaded_phases (ap loaded self) ∙ ap (λ f. record c { word = acquired c.word; phases = f }) (put_put a (Lock (tried c.word)) (Lock (phase.Seeking (Some c.word))) c.phases)),
       nobody_put c a (Lock (tried c.word)) refl nobody,

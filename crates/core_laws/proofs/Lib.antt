@@ -1,6 +1,7 @@
 pub mod Asking
 pub mod Deadlock
 pub mod Giving
+pub mod Lessening
 pub mod Pending
 pub mod Ranges
 pub mod Resting
@@ -9,4 +10,5 @@ pub mod Settling
 pub mod Stalls
 pub mod Starting
 pub mod Suits
+pub mod Unsaying
 pub mod Steps

@@ -1,6 +1,6 @@
 -- Events that are pending are known; the lock's event and the controller's are pending wherever they have status.
-use Rattle.std.proofs.Common.{ℕ, zero, suc, ◌+◌, ◌-◌, ◌<◌, ◌≤◌, ◌≡◌, ◌==◌, ◌&&◌, ◌||◌, ◌⊎◌, inl, inr, Bool, true, false, not, cond, min, nat_lt, nat_le, List, [], ◌∷◌, Option, Some, None, is_some, refl, sym, ap, ◌∙◌, subst, arith, if◌then◌else◌}
-use Rattle.std.proofs.lemmas.Bool.{and_parts, cases_Bool, lt-ltb, ltb-true, or_left, or_right}
+use Rattle.std.proofs.Common.{◌<◌, ◌≡◌, ◌&&◌, ◌||◌, ◌⊎◌, inl, inr, Bool, true, false, not, nat_lt, List, [], ◌∷◌, Option, Some, None, refl, sym, ap, ◌∙◌, arith, if◌then◌else◌}
+use Rattle.std.proofs.lemmas.Bool.{and_parts, ltb-true, or_left, or_right}
 use Rattle.acpi_regs.specs.declared.actor.Actor.{Actor}
 use Rattle.acpi_regs.specs.declared.actor.Side.TheVariants as side
 use Rattle.acpi_regs.specs.declared.entry.Deed.{Deed}
@@ -8,7 +8,7 @@ use Rattle.acpi_regs.specs.declared.entry.Deed.TheVariants as deed
 use Rattle.acpi_regs.specs.declared.entry.Entry.{Entry}
 use Rattle.acpi_regs.specs.declared.event.Event.{Event}
 use Rattle.acpi_regs.specs.declared.event.Listed.{Listed}
-use Rattle.acpi_regs.specs.Actor.{same_actor, stands_on}
+use Rattle.acpi_regs.specs.Actor.{stands_on}
 use Rattle.acpi_regs.specs.Core.{all_events}
 use Rattle.acpi_regs.specs.CoreEvents.{entry}
 use Rattle.acpi_regs.specs.Event.{event_rank, gbl, is_gbl, same_event}
@@ -26,7 +26,6 @@ use Rattle.handler_script.specs.declared.act.Act.TheVariants as act
 use Rattle.machine_desc.specs.Kept.{IsMachine, listed_in, own_event}
 use Rattle.machine_desc.specs.Machine.{MachineData}
 use Rattle.machine_desc.specs.Rules.{is_event_of, is_known, is_listed}
-use Rattle.machine_history.specs.declared.parts.Job.{Job}
 use Rattle.machine_history.specs.declared.parts.Touched.{Touched}
 use Rattle.machine_history.specs.Events.{does, does_to, is_loud, pending, slot, slot_after, status, touch_of}
 use Rattle.machine_history.specs.Events as events
@@ -34,7 +33,7 @@ use Rattle.machine_history.specs.Jobs.{event_ended, jobs}
 use Rattle.machine_history.specs.Legal.{Allowed, LegalPast, asked, is_worker}
 use Rattle.machine_history.specs.Machine.{kind_of}
 use Rattle.machine_history.specs.Scripts.{next_of}
-use Rattle.machine_history.specs.Wire.{Open, codes, open_of}
+use Rattle.machine_history.specs.Wire.{codes, open_of}
 use Rattle.machine_history.proofs.Keeping.{some_asked}
 use Rattle.machine_history.proofs.Known.{hold, same_event-self, same_event-true}
 use Rattle.machine_history.proofs.Queries.{slot_kind}

@@ -1,5 +1,5 @@
 -- The events that a machine knows are among those that there are.
-use Rattle.std.proofs.Common.{ℕ, zero, suc, ◌+◌, ◌-◌, ◌*◌, ◌%◌, ◌<◌, ◌≤◌, ◌≡◌, ◌==◌, ◌⊎◌, inl, inr, Bool, true, false, ◌&&◌, ◌||◌, not, nat_lt, nat_le, List, [], ◌∷◌, map, length, unwrap_or, slice_get, Option, Some, None, is_some, is_none, cond, refl, sym, ap, ◌∙◌, subst, arith, if◌then◌else◌}
+use Rattle.std.proofs.Common.{ℕ, zero, suc, ◌+◌, ◌-◌, ◌*◌, ◌%◌, ◌<◌, ◌≡◌, ◌==◌, inl, inr, Bool, true, false, ◌||◌, nat_lt, nat_le, List, [], ◌∷◌, unwrap_or, slice_get, Option, Some, None, is_some, is_none, refl, sym, ◌∙◌, subst, arith, if◌then◌else◌}
 use Rattle.std.specs.List.{list_any}
 use Rattle.std.proofs.lemmas.Bool.{and_cases, and_parts, cases_Bool, leb-true, ltb-false, ltb-true, or_parts}
 use Rattle.acpi_regs.specs.declared.event.Event.{Event}
@@ -7,11 +7,10 @@ use Rattle.acpi_regs.specs.declared.event.Event.TheVariants as event
 use Rattle.acpi_regs.specs.declared.event.Fixed.{Fixed}
 use Rattle.acpi_regs.specs.declared.event.Fixed.TheVariants as fixed
 use Rattle.acpi_regs.specs.declared.event.Listed.{Listed}
-use Rattle.acpi_regs.specs.declared.geometry.GeometryField.{GeometryField}
 use Rattle.acpi_regs.specs.declared.geometry.GeometryField.TheVariants as geometry_field
 use Rattle.acpi_regs.specs.declared.geometry.GpePlace.{GpePlace}
 use Rattle.acpi_regs.specs.Core.{all_events}
-use Rattle.acpi_regs.specs.CoreEvents.{InRange, list_of}
+use Rattle.acpi_regs.specs.CoreEvents.{InRange}
 use Rattle.acpi_regs.specs.Event.{event_rank, fixed_rank, is_gbl, same_event}
 use Rattle.acpi_regs.specs.Geometry.{Blocks, bad_field, is_bad_base, is_bad_length, is_in_first, is_in_second, place_at, place_in}
 use Rattle.machine_desc.specs.declared.machine.ListedEvent.{ListedEvent}

@@ -1,13 +1,12 @@
 -- A sound core in which no actor has a step is at rest: nobody owns the lock or competes for it, every script and every job is
 -- through, and no code waits.
-use Rattle.std.proofs.Common.{ℕ, zero, suc, ◌+◌, ◌<◌, ◌≤◌, ◌≡◌, ◌==◌, ◌&&◌, ◌||◌, ◌⊎◌, inl, inr, Bool, true, false, not, cond, nat_lt, List, [], ◌∷◌, length, slice_get, unwrap_or, option_map, Option, Some, None, is_some, is_none, refl, sym, ap, ◌∙◌, subst, arith, if◌then◌else◌}
-use Rattle.std.proofs.lemmas.Bool.{and_from, and_parts, eq-eqb, eqb-false, eqb-true, lt-ltb, ltb-false, ltb-true}
+use Rattle.std.proofs.Common.{ℕ, zero, suc, ◌<◌, ◌≤◌, ◌≡◌, ◌==◌, ◌&&◌, ◌||◌, ◌⊎◌, inl, inr, Bool, true, false, not, cond, nat_lt, List, [], ◌∷◌, length, slice_get, unwrap_or, option_map, Option, Some, None, is_none, refl, sym, ap, ◌∙◌, subst, arith}
+use Rattle.std.proofs.lemmas.Bool.{and_from, eqb-false, eqb-true, lt-ltb, ltb-false}
 use Rattle.std.proofs.lemmas.Option.{slice_get_within}
 use Rattle.acpi_regs.specs.declared.actor.Actor.{Actor}
 use Rattle.acpi_regs.specs.declared.actor.Actor.TheVariants as actor
 use Rattle.acpi_regs.specs.declared.actor.Side.{Side}
 use Rattle.acpi_regs.specs.declared.actor.Side.TheVariants as side
-use Rattle.acpi_regs.specs.declared.entry.Deed.{Deed}
 use Rattle.acpi_regs.specs.declared.entry.Deed.TheVariants as deed
 use Rattle.acpi_regs.specs.declared.entry.Entry.{Entry}
 use Rattle.acpi_regs.specs.declared.event.Event.{Event}
@@ -17,29 +16,26 @@ use Rattle.acpi_regs.specs.declared.phase.Pulse.{Pulse}
 use Rattle.acpi_regs.specs.Actor.{side_of}
 use Rattle.acpi_regs.specs.Core.{Core}
 use Rattle.acpi_regs.specs.CoreEvents.{in_hand, is_holding, list_of, one, past_in, pulses_in}
-use Rattle.acpi_regs.specs.CoreSound.{Fits, IsStart, all_clear, all_pulses, competes, half, hands, holds, is_kind, is_signalled, latches, lock_phase, lock_phases, phase_at, sum_below, tells, times, times_pulsed, waits}
+use Rattle.acpi_regs.specs.CoreSound.{Fits, IsStart, competes, holds, is_kind, is_signalled, lock_phase, lock_phases, phase_at, sum_below, times, times_pulsed, waits}
 use Rattle.acpi_regs.specs.Event.{gbl, same_event}
-use Rattle.acpi_regs.specs.Lock.{busies, gbl_status, has_disowned, has_owned, is_busy, is_someone, leaves, other, owner, seeker, wake}
-use Rattle.acpi_regs.specs.Phases.{Free, Holding, Lock, Phase, Pulsed, is_gone, is_idle, is_marked, is_owning}
+use Rattle.acpi_regs.specs.Lock.{busies, gbl_status, has_disowned, is_busy, is_someone, leaves, other, owner, seeker, wake}
+use Rattle.acpi_regs.specs.Phases.{Free, Holding, Lock, Phase, Pulsed, is_idle, is_marked, is_owning}
 use Rattle.acpi_regs.proofs.Latching.{someone_holds}
 use Rattle.acpi_regs.proofs.LockActors.{someone_self}
 use Rattle.handler_script.specs.declared.act.Act.{Act}
 use Rattle.handler_script.specs.Locked.{Locked}
-use Rattle.handler_script.specs.Plan.{End}
-use Rattle.machine_desc.specs.Kept.{IsMachine, counts_in, own_event}
+use Rattle.machine_desc.specs.Kept.{IsMachine}
 use Rattle.machine_desc.specs.Machine.{MachineData}
-use Rattle.machine_desc.specs.Rules.{has_actor}
-use Rattle.machine_history.specs.Complete.{Complete, Rest}
+use Rattle.machine_history.specs.Complete.{Complete}
 use Rattle.machine_history.specs.Events.{pending, status}
 use Rattle.machine_history.specs.Events as history
 use Rattle.machine_history.specs.Jobs.{is_empty, jobs, running, starts}
-use Rattle.machine_history.specs.Legal.{conditions, has_quit, is_firmware, is_seeker, is_worker, may_start, runs_scripts, same_number, unsought, woken_on}
+use Rattle.machine_history.specs.Legal.{has_quit, is_seeker, is_worker, runs_scripts, same_number, unsought, woken_on}
 use Rattle.machine_history.specs.Machine as machine
 use Rattle.machine_history.specs.Scripts.{next_of, plan_left}
 use Rattle.machine_history.specs.Steps.{adds, at_act, at_script, between, otherwise, pulses, waiting, where_may}
 use Rattle.machine_history.specs.Steps as steps
-use Rattle.machine_history.specs.Wire.{codes, open_of}
-use Rattle.machine_history.proofs.Known.{is_none-none, some-injective}
+use Rattle.machine_history.specs.Wire.{codes}
 use Rattle.machine_history.proofs.LastEntries.{gbl_is_status}
 use Rattle.machine_history.proofs.Owning.{ended, guarded}
 use Rattle.machine_history.proofs.Stages.{is_owned, stage}
@@ -251,7 +247,7 @@ module _ (m : MachineData) (ok : IsMachine m) (c : Core) (h : Sound m c) (stuck 
           let works : is_worker m a ≡ true = subst (RunsIn m a) is (runs_in m past a h.legal) in
           let runs = worker_runs m a works in
           absurd (cannot m past a (option_map deed.Finish (running past a)) (deed.Finish j) (not_first (where_may m past a (option_map deed.Finish (running past a))) (where_may m past a (option_map deed.Start (waiting m past))) (between_none a runs)) (ap (option_map deed.Finish) is)
-              (works, (keeps (has_quit m past a) false (unquit a runs) refl, (ap (same_number (Some j)) is ∙ same_nat j, (ap is_none (through a runs), tt)))))
+          (works, (keeps (has_quit m past a) false (unquit a runs) refl, (ap (same_number (Some j)) is ∙ same_nat j, (ap is_none (through a runs), tt)))))
 
   all_started : starts past ≡ length (jobs m past)
   all_started = at (nat_lt (starts past) (length (jobs m past))) refl
@@ -265,7 +261,7 @@ module _ (m : MachineData) (ok : IsMachine m) (c : Core) (h : Sound m c) (stuck 
       at : (b : Bool) → nat_lt (starts past) (length (jobs m past)) ≡ b → starts past ≡ length (jobs m past)
       at true less =
           absurd (cannot m past (actor.Worker 0) (option_map deed.Start (waiting m past)) (deed.Start (starts past)) (not_then (where_may m past (actor.Worker 0) (option_map deed.Finish (running past (actor.Worker 0)))) (where_may m past (actor.Worker 0) (option_map deed.Start (waiting m past))) (between_none (actor.Worker 0) runs)) (ap (λ b. option_map deed.Start (cond b (Some (starts past)) None)) less)
-              (works, (keeps (has_quit m past (actor.Worker 0)) false (unquit (actor.Worker 0) runs) refl, (and_from (is_none (running past (actor.Worker 0)) && (starts past == starts past)) (nat_lt (starts past) (length (jobs m past))) (and_from (is_none (running past (actor.Worker 0))) (starts past == starts past) (ap is_none (none_runs (actor.Worker 0))) (same_nat (starts past))) less, tt))))
+          (works, (keeps (has_quit m past (actor.Worker 0)) false (unquit (actor.Worker 0) runs) refl, (and_from (is_none (running past (actor.Worker 0)) && (starts past == starts past)) (nat_lt (starts past) (length (jobs m past))) (and_from (is_none (running past (actor.Worker 0))) (starts past == starts past) (ap is_none (none_runs (actor.Worker 0))) (same_nat (starts past))) less, tt))))
       at false more = let least = ltb-false (starts past) (length (jobs m past)) more in let most = few_starts m past h.legal in omega arith
 
   -- ---- no code waits

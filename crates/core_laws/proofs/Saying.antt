@@ -1,6 +1,6 @@
 -- What a sound core says, in sentences.
-use Rattle.std.proofs.Common.{ℕ, zero, suc, ◌+◌, ◌*◌, ◌≤◌, ◌≡◌, ◌==◌, ◌&&◌, ◌||◌, ◌⊎◌, inl, inr, Bool, true, false, not, cond, List, [], ◌∷◌, Option, Some, None, refl, sym, ap, ◌∙◌, subst, arith, if◌then◌else◌}
-use Rattle.std.proofs.lemmas.Bool.{eqb-true, eq-eqb}
+use Rattle.std.proofs.Common.{ℕ, ◌+◌, ◌*◌, ◌≤◌, ◌≡◌, ◌==◌, ◌&&◌, ◌⊎◌, inl, inr, Bool, true, false, cond, List, [], ◌∷◌, Option, Some, None, refl, sym, ap, ◌∙◌, subst, arith}
+use Rattle.std.proofs.lemmas.Bool.{eqb-true}
 use Rattle.acpi_regs.specs.declared.actor.Actor.{Actor}
 use Rattle.acpi_regs.specs.declared.actor.Actor.TheVariants as actor
 use Rattle.acpi_regs.specs.declared.actor.Side.{Side}
@@ -12,13 +12,12 @@ use Rattle.acpi_regs.specs.declared.phase.LockPhase.TheVariants as phase
 use Rattle.acpi_regs.specs.Actor.{same_actor}
 use Rattle.acpi_regs.specs.Core.{Core}
 use Rattle.acpi_regs.specs.CoreEvents.{is_holding, is_host, one, past_in}
-use Rattle.acpi_regs.specs.CoreSound.{AreOfKind, CoreSound, Fits, LockSound, PinsSound, competes, half, holds, is_kind, is_signalled, is_word, lock_phase, lock_phases, phase_at, tells, waits}
+use Rattle.acpi_regs.specs.CoreSound.{CoreSound, Fits, LockSound, competes, holds, is_kind, is_signalled, is_word, lock_phase, lock_phases, phase_at, tells, waits}
 use Rattle.acpi_regs.specs.Lock.{busies, has_disowned, has_owned, is_busy, is_someone, leaves, other, owner, seeker}
 use Rattle.acpi_regs.specs.Phases.{Free, Holding, Lock, Phase, Pulsed, is_gone, is_idle, is_marked, is_owning}
-use Rattle.acpi_regs.proofs.Halves.{one_most}
 use Rattle.acpi_regs.proofs.Latching.{none_holds, one_holds, someone_holds}
-use Rattle.acpi_regs.proofs.LockActors.{actor_self, actor_swap, actor_true, by_cases, someone_is}
-use Rattle.acpi_regs.proofs.LockSteps.{seeker_at, which_side}
+use Rattle.acpi_regs.proofs.LockActors.{actor_self, actor_true, by_cases, someone_is}
+use Rattle.acpi_regs.proofs.LockSteps.{seeker_at}
 use Rattle.acpi_regs.proofs.LockTurns.{side_of_kind}
 use Rattle.core_laws.specs.Said.{AreDistinct, AsSaid, Reason, count_in, is_among}
 
@@ -162,15 +161,15 @@ module _ (lists : List (List Event)) (c : Core) (h : CoreSound lists c) where
       at None is rest = let here = not_seeker None is none_same in let later = rest (among None is none_same) ∙ ap (λ o. one (test (phase_at f o))) is in omega arith
       at (Some b) is rest = by_cases (same_actor b a) (count_in test c.phases s (a ∷ actors) ≡ one (test (f b)))
           (λ same. (
-              let here = ap (λ x. one (x && test (f a))) (ap (competes s) (sym (actor_true b a same)) ∙ h.lock.seekers s b is) in
-              let later = none_counted test s actors idle (λ x its. ap (λ y. is_among y actors) (some-injective x b (sym its ∙ is) ∙ actor_true b a same) ∙ distinct.0) in
-              let equal = ap (λ x. one (test (f x))) (actor_true b a same) in
-              omega arith))
+          let here = ap (λ x. one (x && test (f a))) (ap (competes s) (sym (actor_true b a same)) ∙ h.lock.seekers s b is) in
+          let later = none_counted test s actors idle (λ x its. ap (λ y. is_among y actors) (some-injective x b (sym its ∙ is) ∙ actor_true b a same) ∙ distinct.0) in
+          let equal = ap (λ x. one (test (f x))) (actor_true b a same) in
+          omega arith))
           (λ apart. (
-              let not_a : Some b ≡ Some a → ⊥ = λ e. both (same_actor b a) (ap (λ x. same_actor b x) (sym (some-injective b a e)) ∙ actor_self b) apart in
-              let here = not_seeker (Some b) is not_a in
-              let later = rest (among (Some b) is not_a) ∙ ap (λ o. one (test (phase_at f o))) is in
-              omega arith))
+          let not_a : Some b ≡ Some a → ⊥ = λ e. both (same_actor b a) (ap (λ x. same_actor b x) (sym (some-injective b a e)) ∙ actor_self b) apart in
+          let here = not_seeker (Some b) is not_a in
+          let later = rest (among (Some b) is not_a) ∙ ap (λ o. one (test (phase_at f o))) is in
+          omega arith))
         where
           some-injective : (x y : Actor) → Some x ≡ Some y → x ≡ y
           some-injective x y e = cc

@@ -1,5 +1,5 @@
 -- What rounds settle on is one core, and its history is complete.
-use Rattle.std.proofs.Common.{ℕ, zero, suc, ◌+◌, ◌-◌, ◌<◌, ◌≤◌, ◌≡◌, ◌⊎◌, inl, inr, Bool, true, false, nat_lt, List, [], ◌∷◌, length, unwrap_or, slice_get, Option, Some, None, is_some, refl, sym, ap, ◌∙◌, subst, arith}
+use Rattle.std.proofs.Common.{ℕ, zero, suc, ◌+◌, ◌≡◌, true, List, [], ◌∷◌, length, unwrap_or, slice_get, Option, Some, None, is_some, refl, sym, ap, ◌∙◌, subst}
 use Rattle.std.proofs.lemmas.Bool.{ltb-true}
 use Rattle.acpi_regs.specs.declared.actor.Actor.{Actor}
 use Rattle.acpi_regs.specs.declared.actor.Actor.TheVariants as actor
@@ -12,7 +12,7 @@ use Rattle.machine_desc.specs.Machine.{MachineData}
 use Rattle.machine_desc.specs.Rules.{has_actor}
 use Rattle.machine_desc.proofs.Order.{device_at, ec_at, firmware_at, int_at, poll_at, worker_at}
 use Rattle.machine_history.specs.Complete.{Complete}
-use Rattle.machine_history.specs.Played.{IsQuiet, Played, Settles, rounds, stepped}
+use Rattle.machine_history.specs.Played.{IsQuiet, Played, Settles, rounds}
 use Rattle.machine_history.specs.Played.{steps as all_steps}
 use Rattle.machine_history.specs.Steps.{gives}
 use Rattle.core_laws.specs.Gives.{NobodyHolds}
@@ -61,7 +61,7 @@ played_complete m history ok (d, settled, is) =
 
 -- ---- one core
 
-quiet_steps : (m : MachineData) (names : List Actor) (c : Core) → IsQuiet m names c → all_steps m names c ≡ c
+pub quiet_steps : (m : MachineData) (names : List Actor) (c : Core) → IsQuiet m names c → all_steps m names c ≡ c
 quiet_steps m [] c quiet = refl
 quiet_steps m (a ∷ names) c quiet = ap (λ o. all_steps m names (unwrap_or o c)) quiet.0 ∙ quiet_steps m names c quiet.1
 

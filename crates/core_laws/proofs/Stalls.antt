@@ -1,11 +1,9 @@
 -- Which entries may be made: what the table of entries asks of an actor, by its phase and its next act.
-use Rattle.std.proofs.Common.{ℕ, zero, suc, ◌+◌, ◌<◌, ◌≤◌, ◌≡◌, ◌==◌, ◌&&◌, ◌||◌, Bool, true, false, not, cond, nat_lt, List, [], ◌∷◌, length, slice_get, option_map, Option, Some, None, is_some, is_none, refl, sym, ap, ◌∙◌, subst, arith, if◌then◌else◌}
-use Rattle.std.proofs.lemmas.Bool.{and_from, and_parts, eq-eqb, or_left, or_right}
+use Rattle.std.proofs.Common.{ℕ, ◌≡◌, ◌==◌, ◌&&◌, ◌||◌, Bool, true, false, not, cond, nat_lt, List, option_map, Option, Some, None, is_some, is_none, refl, sym, ap, ◌∙◌}
+use Rattle.std.proofs.lemmas.Bool.{and_from, and_parts, eq-eqb, or_left}
 use Rattle.acpi_regs.specs.declared.actor.Actor.{Actor}
 use Rattle.acpi_regs.specs.declared.actor.Actor.TheVariants as actor
-use Rattle.acpi_regs.specs.declared.actor.Side.{Side}
 use Rattle.acpi_regs.specs.declared.actor.Side.TheVariants as side
-use Rattle.acpi_regs.specs.declared.entry.Cell.{Cell}
 use Rattle.acpi_regs.specs.declared.entry.Deed.{Deed}
 use Rattle.acpi_regs.specs.declared.entry.Deed.TheVariants as deed
 use Rattle.acpi_regs.specs.declared.entry.Effect.{Effect}
@@ -15,20 +13,19 @@ use Rattle.acpi_regs.specs.declared.entry.HostMove.{HostMove}
 use Rattle.acpi_regs.specs.declared.entry.HostMove.TheVariants as host
 use Rattle.acpi_regs.specs.declared.entry.Request.{Request}
 use Rattle.acpi_regs.specs.declared.entry.Request.TheVariants as request
-use Rattle.acpi_regs.specs.declared.event.Event.{Event}
 use Rattle.acpi_regs.specs.declared.phase.LockPhase.{LockPhase}
 use Rattle.acpi_regs.specs.declared.phase.LockPhase.TheVariants as phase
 use Rattle.acpi_regs.specs.Actor.{side_of, stands_on}
-use Rattle.acpi_regs.specs.Lock.{has_disowned, has_owned, is_busy, is_someone, owner, seeker}
+use Rattle.acpi_regs.specs.Lock.{has_disowned, has_owned, is_busy, is_someone, owner}
 use Rattle.acpi_regs.specs.Phases.{allows}
 use Rattle.handler_script.specs.declared.act.Act.{Act}
 use Rattle.handler_script.specs.declared.act.Act.TheVariants as act
-use Rattle.handler_script.specs.Locked.{Locked, held_by, is_lock_step}
+use Rattle.handler_script.specs.Locked.{Locked, is_lock_step}
 use Rattle.handler_script.specs.Plan.{Plan, Do, End, next_act}
 use Rattle.machine_desc.specs.Kept.{counts_in, own_event}
 use Rattle.machine_desc.specs.Machine.{MachineData}
 use Rattle.machine_desc.specs.Rules.{has_actor, is_listed}
-use Rattle.machine_history.specs.Legal.{Allowed, LegalPast, asked, asked_by, conditions, has_quit, is_firmware, is_leave, is_next, is_seeker, is_worker, runs_scripts, same_effect, same_host, same_number, same_request, unsought}
+use Rattle.machine_history.specs.Legal.{LegalPast, asked, asked_by, conditions, has_quit, is_firmware, is_next, is_seeker, is_worker, runs_scripts, same_effect, same_host, same_number, same_request, unsought}
 use Rattle.machine_history.specs.Scripts.{next_of}
 use Rattle.machine_history.specs.Steps.{at_act, host_move, may, otherwise, where_allowed, where_may}
 use Rattle.machine_history.specs.Values.{same_cell, taking, value}

@@ -1,5 +1,5 @@
 -- The codes of the runs that were started are a front of those that were given.
-use Rattle.std.proofs.Common.{ℕ, zero, suc, ◌+◌, ◌<◌, ◌≤◌, ◌≡◌, List, [], ◌∷◌, ◌++◌, length, reverse, take, drop, slice_get, Option, Some, None, refl, sym, ap, ◌∙◌, subst, append_assoc, arith}
+use Rattle.std.proofs.Common.{ℕ, zero, suc, ◌+◌, ◌<◌, ◌≤◌, ◌≡◌, List, [], ◌∷◌, ◌++◌, length, reverse, take, drop, slice_get, Option, Some, None, refl, sym, ap, ◌∙◌, append_assoc, arith}
 use Rattle.std.proofs.lemmas.List.{take-append-drop, take-append-le}
 use Rattle.acpi_regs.specs.declared.actor.Actor.{Actor}
 use Rattle.acpi_regs.specs.declared.entry.Deed.{Deed}
@@ -8,14 +8,14 @@ use Rattle.acpi_regs.specs.declared.entry.Entry.{Entry}
 use Rattle.acpi_regs.specs.CoreEvents.{entry}
 use Rattle.machine_desc.specs.Machine.{MachineData}
 use Rattle.machine_history.specs.declared.parts.Job.{Job}
-use Rattle.machine_history.specs.Jobs.{and_job, jobs, made, starts, starts_after}
+use Rattle.machine_history.specs.Jobs.{and_job, jobs, made, starts}
 use Rattle.machine_history.specs.Legal.{Allowed, Legal, LegalPast}
 use Rattle.machine_history.specs.Sentences.{code_of, codes_of, out_in}
 use Rattle.machine_history.specs.Wire.{given, open_of}
 use Rattle.machine_history.proofs.CodeOrder.{runs_as_given}
 use Rattle.machine_history.proofs.JobCounts.{start_parts}
 use Rattle.machine_history.proofs.Known.{hold}
-use Rattle.core_laws.specs.Codes.{IsFront, code_at, code_started, started_codes}
+use Rattle.core_laws.specs.Codes.{IsFront, code_at, started_codes}
 
 append-nil : (xs : List ℕ) → xs ++ [] ≡ xs
 append-nil [] = refl
@@ -60,12 +60,11 @@ pub started_given : (m : MachineData) (history : List Entry) → Legal m history
 started_given m history legal =
     let past : List Entry = reverse history in
     let js : List Job = jobs m past in
-    let front = (started m past legal).1 in
-    (
+    let front = (started m past legal).1 in (
       codes_of (drop (starts past) js) ++ out_in (open_of past),
       runs_as_given m history legal
-      ∙ (ap (λ l. codes_of l ++ out_in (open_of past)) (sym (take-append-drop (starts past) js))
-      ∙ (ap (λ l. l ++ out_in (open_of past)) (codes-append (take (starts past) js) (drop (starts past) js))
-      ∙ (append_assoc (codes_of (take (starts past) js)) (codes_of (drop (starts past) js)) (out_in (open_of past))
-      ∙ ap (λ l. l ++ (codes_of (drop (starts past) js) ++ out_in (open_of past))) (sym front)))),
+          ∙ (ap (λ l. codes_of l ++ out_in (open_of past)) (sym (take-append-drop (starts past) js))
+          ∙ (ap (λ l. l ++ out_in (open_of past)) (codes-append (take (starts past) js) (drop (starts past) js))
+          ∙ (append_assoc (codes_of (take (starts past) js)) (codes_of (drop (starts past) js)) (out_in (open_of past))
+          ∙ ap (λ l. l ++ (codes_of (drop (starts past) js) ++ out_in (open_of past))) (sym front)))),
     )

@@ -1,7 +1,6 @@
 -- Each event of a machine's core keeps it sound.
-use Rattle.std.proofs.Common.{ℕ, ◌+◌, ◌≤◌, ◌≡◌, ◌==◌, Bool, true, false, not, cond, List, [], ◌∷◌, Option, Some, None, refl, sym, ap, ◌∙◌, subst, arith}
+use Rattle.std.proofs.Common.{ℕ, ◌+◌, ◌≤◌, ◌≡◌, ◌==◌, Bool, true, false, cond, List, [], ◌∷◌, Option, Some, None, refl, sym, ap, ◌∙◌, subst, arith}
 use Rattle.acpi_regs.specs.declared.actor.Actor.{Actor}
-use Rattle.acpi_regs.specs.declared.actor.Actor.TheVariants as actor
 use Rattle.acpi_regs.specs.declared.actor.Side.{Side}
 use Rattle.acpi_regs.specs.declared.actor.Side.TheVariants as side
 use Rattle.acpi_regs.specs.declared.entry.Deed.{Deed}
@@ -12,7 +11,6 @@ use Rattle.acpi_regs.specs.Actor.{is_side, side_of, stands_on}
 use Rattle.acpi_regs.specs.Core.{Core, first_core}
 use Rattle.acpi_regs.specs.CoreEvents.{Collect, CoreEvent, Exchange, InRange, IsTurn, IsUnsought, Load, Pulses, Release, Turn, entry, exchanged, lock_deeds, loaded, next_pulse, one, past_in, pulsed, turned}
 use Rattle.acpi_regs.specs.CoreEvents as regs
-use Rattle.acpi_regs.specs.CoreSound.{CoreSound}
 use Rattle.acpi_regs.specs.Lock.{seeker}
 use Rattle.acpi_regs.specs.Phases.{Phase, is_lock_deed}
 use Rattle.acpi_regs.proofs.LockPast.{quiet_seeker}

@@ -1,5 +1,5 @@
 -- Each act that is left for an actor is one that the actor may make.
-use Rattle.std.proofs.Common.{ℕ, zero, suc, ◌+◌, ◌<◌, ◌≤◌, ◌≡◌, ◌==◌, ◌&&◌, ◌||◌, Bool, true, false, not, cond, nat_lt, List, [], ◌∷◌, ◌++◌, length, map, slice_get, unwrap_or, Option, Some, None, is_some, refl, sym, ap, ◌∙◌, subst, arith, if◌then◌else◌}
+use Rattle.std.proofs.Common.{ℕ, zero, suc, ◌+◌, ◌≡◌, ◌==◌, ◌&&◌, Bool, true, false, not, List, [], ◌∷◌, ◌++◌, length, slice_get, unwrap_or, Option, Some, None, is_some, refl, sym, ap, ◌∙◌, subst, if◌then◌else◌}
 use Rattle.std.proofs.lemmas.Bool.{and_parts, lt-ltb, not-false, not-true}
 use Rattle.std.proofs.lemmas.Option.{slice_get_within}
 use Rattle.acpi_regs.specs.declared.actor.Actor.{Actor}
@@ -9,7 +9,6 @@ use Rattle.acpi_regs.specs.declared.actor.Side.TheVariants as side
 use Rattle.acpi_regs.specs.declared.entry.Deed.{Deed}
 use Rattle.acpi_regs.specs.declared.entry.Deed.TheVariants as deed
 use Rattle.acpi_regs.specs.declared.entry.Entry.{Entry}
-use Rattle.acpi_regs.specs.declared.entry.Request.TheVariants as request
 use Rattle.acpi_regs.specs.declared.event.Event.{Event}
 use Rattle.acpi_regs.specs.declared.event.Listed.{Listed}
 use Rattle.acpi_regs.specs.Actor.{same_actor}
@@ -17,7 +16,7 @@ use Rattle.acpi_regs.specs.CoreEvents.{entry}
 use Rattle.acpi_regs.specs.Event.{same_event}
 use Rattle.field_units.specs.declared.rules.RegionKind.{RegionKind}
 use Rattle.field_units.specs.declared.rules.RegionKind.TheVariants as region_kind
-use Rattle.field_units.specs.Field.{Field, RegionData, is_controller}
+use Rattle.field_units.specs.Field.{Field, is_controller}
 use Rattle.handler_script.specs.declared.act.Act.{Act}
 use Rattle.handler_script.specs.declared.act.Act.TheVariants as act
 use Rattle.handler_script.specs.declared.fault.ScriptFault.{ScriptFault}
@@ -26,8 +25,8 @@ use Rattle.handler_script.specs.declared.op.Op.{Op}
 use Rattle.handler_script.specs.declared.op.Op.TheVariants as op
 use Rattle.handler_script.specs.Accepts.{faults_from, first_of, is_allowed, is_balanced, is_known, is_sound_skip, open_after, script_fault}
 use Rattle.handler_script.specs.Each.{Each, IsTrueOn, act_alone}
-use Rattle.handler_script.specs.Parts.{access_needs, bursts, read_act, read_in, write_act, write_in}
-use Rattle.handler_script.specs.Plan.{Plan, Do, End, next_act, plan, plan_after, query_plan}
+use Rattle.handler_script.specs.Parts.{access_needs, bursts, read_in, write_in}
+use Rattle.handler_script.specs.Plan.{next_act, plan}
 use Rattle.handler_script.proofs.Each.{each}
 use Rattle.machine_desc.specs.declared.machine.ControllerDesc.{ControllerDesc}
 use Rattle.machine_desc.specs.declared.machine.ListedEvent.{ListedEvent}
@@ -41,9 +40,9 @@ use Rattle.machine_history.specs.declared.parts.Job.TheVariants as job
 use Rattle.machine_history.specs.Jobs.{and_job, claimed_job, is_empty, jobs, made, made_by, taken_job}
 use Rattle.machine_history.specs.Legal.{Allowed, LegalPast, is_firmware, is_worker}
 use Rattle.machine_history.specs.Machine.{is_own, lists, names, query_in, script_in}
-use Rattle.machine_history.specs.Scripts.{answer_of, first_plan, job_plan, left_after, passes, plan_left}
+use Rattle.machine_history.specs.Scripts.{first_plan, job_plan, left_after, plan_left}
 use Rattle.machine_history.specs.Wire.{Open, asks_code, codes, open_of}
-use Rattle.machine_history.proofs.Known.{hold, same_actor-true, same_self, some-injective}
+use Rattle.machine_history.proofs.Known.{hold, same_actor-true, some-injective}
 use Rattle.machine_history.proofs.PlanFacts.{after_each, next_each}
 
 -- what an act asks of the actor that makes it

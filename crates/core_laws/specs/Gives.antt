@@ -2,7 +2,6 @@
 use Rattle.std.specs.Prelude.{◌≡◌, false, List, [], ◌∷◌, map, Some}
 use Rattle.acpi_regs.specs.declared.actor.Actor.{Actor}
 use Rattle.acpi_regs.specs.declared.actor.Actor.TheVariants as actor
-use Rattle.acpi_regs.specs.declared.entry.Deed.{Deed}
 use Rattle.acpi_regs.specs.declared.entry.Deed.TheVariants as deed
 use Rattle.acpi_regs.specs.Core.{Core, events_of}
 use Rattle.acpi_regs.specs.CoreEvents.{Collect, CoreEvent, Exchange, Load, Release, Turn, is_holding, past_in}

@@ -1,8 +1,6 @@
 -- What is still to come on a machine, as a number that each step lessens.
-use Rattle.std.specs.Prelude.{ℕ, ◌+◌, ◌-◌, ◌*◌, List, length}
-use Rattle.acpi_regs.specs.declared.actor.Actor.{Actor}
+use Rattle.std.specs.Prelude.{ℕ, ◌+◌, ◌-◌, ◌*◌, length}
 use Rattle.acpi_regs.specs.declared.actor.Actor.TheVariants as actor
-use Rattle.acpi_regs.specs.declared.event.Event.{Event}
 use Rattle.acpi_regs.specs.declared.phase.LockPhase.{LockPhase}
 use Rattle.acpi_regs.specs.declared.phase.LockPhase.TheVariants as phase
 use Rattle.acpi_regs.specs.Core.{Core}

@@ -1,16 +1,19 @@
 -- What a sound core says of its actors, in sentences: who holds the lock's word, what each phase tells of the entries, why an
 -- actor waits, and how many signals there are (ACPI 6.5, section 5.2.10.1).
-use Rattle.std.specs.Prelude.{ℕ, ◌≡◌, ◌≤◌, ◌+◌, ◌*◌, ◌==◌, ◌&&◌, ◌⊎◌, not, Bool, true, false, List, [], ◌∷◌, Option, Some, None, if◌then◌else◌}
+use Rattle.std.specs.Prelude.{ℕ, ◌≡◌, ◌≤◌, ◌+◌, ◌*◌, ◌==◌, ◌&&◌, ◌⊎◌, not, Bool, true, false, List, [], ◌∷◌, Some, if◌then◌else◌}
 use Rattle.acpi_regs.specs.declared.actor.Actor.{Actor}
 use Rattle.acpi_regs.specs.declared.actor.Actor.TheVariants as actor
 use Rattle.acpi_regs.specs.declared.actor.Side.{Side}
-use Rattle.acpi_regs.specs.declared.entry.Entry.{Entry}
 use Rattle.acpi_regs.specs.declared.phase.LockPhase.{LockPhase}
 use Rattle.acpi_regs.specs.declared.phase.LockPhase.TheVariants as phase
 use Rattle.acpi_regs.specs.Actor.{same_actor}
 use Rattle.acpi_regs.specs.Core.{Core}
-use Rattle.acpi_regs.specs.CoreEvents.{in_hand, is_holding, one, past_in}
-use Rattle.acpi_regs.specs.CoreSound.{competes, holds, is_signalled, is_word, lock_phase, tells, waits}
+use Rattle.acpi_regs.specs.CoreEvents.{has_collected, in_hand, is_holding, list_of, one, past_in, pulses_in}
+use Rattle.acpi_regs.specs.CoreSound.{AreOfKind, IsStart, all_clear, all_pulses, competes, hands, holds, is_signalled, is_word, latches, lock_phase, tells, waits}
+use Rattle.acpi_regs.specs.declared.event.Event.{Event}
+use Rattle.acpi_regs.specs.Event.{word_of}
+use Rattle.machine_desc.specs.Machine.{MachineData}
+use Rattle.machine_history.specs.Legal.{Legal}
 use Rattle.acpi_regs.specs.Lock.{busies, has_disowned, has_owned, is_busy, is_someone, leaves, other, owner, seeker}
 use Rattle.acpi_regs.specs.Phases.{Lock, Phase, is_gone, is_idle, is_marked, is_owning}
 
@@ -61,3 +64,19 @@ pub record AsSaid (c : Core) : Type 0 where
       → leaves s (past_in c) + (count_in (is_gone true) c.phases s actors + one (c.word == 3) * count_in holds c.phases s actors) ≤ busies (other s) (past_in c) + count_in is_marked c.phases (other s) actors
   -- at most one actor is in the midst of a turn that collects
   pub one_turn : (a b : Actor) → is_holding (c.phases a) ≡ true → is_holding (c.phases b) ≡ true → a ≡ b
+
+-- The same for pulses: each device's pulses are the start of its list; those that found their pin clear were latched, stand in the
+-- pin, or are in a hand; an event that was pulsed was found clear once at least; what is in a hand is of a pin word that was
+-- collected.
+pub record PulsesSaid (lists : List (List Event)) (c : Core) : Type 0 where
+  pub start : (k : ℕ) → IsStart (list_of lists k) (pulses_in (c.phases (actor.Device k)))
+  pub counts : (n : Event) → all_clear lists c.phases n ≡ latches n (past_in c) + (one (c.pins n) + hands c.phases n)
+  pub some_clear : (n : Event) → 1 ≤ all_pulses lists c.phases n → 1 ≤ all_clear lists c.phases n
+  pub collected : (a : Actor) (n : Event) → in_hand (c.phases a) n ≡ true → has_collected (c.phases a) (word_of n) ≡ true
+
+-- a sound core by these sentences: its history is legal, each actor is in a phase of its kind, and they hold
+pub record SoundAsSaid (m : MachineData) (c : Core) : Type 0 where
+  pub legal : Legal m c.history
+  pub kinds : AreOfKind c.phases
+  pub lock : AsSaid c
+  pub pulses : PulsesSaid m.devices c

@@ -1,6 +1,6 @@
 //! Laws over the definitions of a core and of histories, each for every machine. A law is a function with nothing to do,
 //! whose contract says it.
-ghost use Rattle.std.specs.Prelude.{◌≡◌, ◌<◌, ◌≤◌, true, List, length, map, reverse, Some};
+ghost use Rattle.std.specs.Prelude.{◌≡◌, ◌<◌, ◌≤◌, ◌⊎◌, true, List, length, map, reverse, Some};
 ghost use Rattle.acpi_regs.specs.declared.actor.Actor.{Actor};
 ghost use Rattle.acpi_regs.specs.declared.entry.Deed.TheVariants as deed;
 ghost use Rattle.acpi_regs.specs.declared.entry.Entry.{Entry};
@@ -8,31 +8,35 @@ ghost use Rattle.acpi_regs.specs.declared.event.Event.{Event};
 ghost use Rattle.acpi_regs.specs.Core.{Core, events_of, first_core};
 ghost use Rattle.acpi_regs.specs.CoreEvents.{CoreEvent, is_host};
 ghost use Rattle.machine_desc.specs.Actors.{actors_of};
-ghost use Rattle.machine_desc.specs.Kept.{IsMachine};
+ghost use Rattle.machine_desc.specs.Kept.{IsMachine, counts_in};
 ghost use Rattle.machine_desc.specs.Machine.{MachineData};
+ghost use Rattle.machine_desc.specs.Rules.{has_actor};
 ghost use Rattle.machine_desc.specs.Weight.{weight_of};
 ghost use Rattle.machine_history.specs.Events.{latches};
 ghost use Rattle.machine_history.specs.Exclusion.{AccessesByOwner, DisownsBetween};
 ghost use Rattle.machine_history.specs.Legal.{Legal};
 ghost use Rattle.machine_history.specs.Machine.{pulses_of};
 ghost use Rattle.machine_history.specs.Complete.{Complete};
-ghost use Rattle.machine_history.specs.Played.{Played, Settles, steps, stepped};
+ghost use Rattle.machine_history.specs.Played.{IsQuiet, Played, Settles, steps, stepped};
 ghost use Rattle.machine_history.specs.Steps.{gives};
 ghost use Rattle.machine_history.specs.Wire.{given};
 ghost use Rattle.core_laws.specs.Codes.{IsFront, started_codes};
 ghost use Rattle.core_laws.specs.CoreSteps.{AllHappen, EachLegal, MayHappen, after, happens};
 ghost use Rattle.core_laws.specs.Gives.{IsEvents, NobodyHolds};
-ghost use Rattle.core_laws.specs.Said.{AsSaid, holds_word};
+ghost use Rattle.core_laws.specs.Rounds.{to_come};
+ghost use Rattle.core_laws.specs.Said.{SoundAsSaid, holds_word};
 ghost use Rattle.core_laws.specs.Sound.{Sound};
 ghost use Rattle.core_laws.specs.Stuck.{IsStuck};
 
 /// The first core of a machine is sound, and each event that may happen leads from a sound core to a sound one. So does every
-/// list of events, of any actors in any order.
+/// list of events, of any actors in any order. A core is sound exactly where the sentences on its history, its phases, its lock
+/// and its pulses hold.
 pub fn law_sound()
     ensures first { (m : MachineData) → Sound m first_core }
     ensures step { (m : MachineData) (c : Core) (e : CoreEvent) → IsMachine m → Sound m c → MayHappen m c e → Sound m (happens m c e) }
     ensures all { (m : MachineData) (c : Core) (events : List CoreEvent) → IsMachine m → Sound m c → AllHappen m c events → Sound m (after m c events) }
-    ensures said { (m : MachineData) (c : Core) → Sound m c → AsSaid c }
+    ensures said { (m : MachineData) (c : Core) → Sound m c → SoundAsSaid m c }
+    ensures unsaid { (m : MachineData) (c : Core) → IsMachine m → SoundAsSaid m c → Sound m c }
 {}
 
 /// What one step of an actor does to a core is a list of events of that core, and nobody holds the turn between two steps. So
@@ -79,4 +83,14 @@ pub fn law_no_deadlock()
 pub fn law_weight()
     ensures legal { (m : MachineData) (history : List Entry) → IsMachine m → Legal m history → length history ≤ weight_of m }
     ensures sound { (m : MachineData) (c : Core) → IsMachine m → Sound m c → length c.history ≤ weight_of m }
+{}
+
+/// Each step of an actor lessens what is to come: two for each entry that the weight leaves room for, and one for each attempt,
+/// release and pulse that is owed. So a round either finds nobody with a step or lessens it, rounds settle after at most that
+/// many, and what they settle on is one core.
+pub fn law_rounds()
+    ensures step { (m : MachineData) (c d : Core) (a : Actor) → IsMachine m → Sound m c → NobodyHolds c → has_actor (counts_in m) a ≡ true → gives m c a ≡ Some d → to_come m d < to_come m c }
+    ensures round { (m : MachineData) (c : Core) → IsMachine m → Sound m c → NobodyHolds c → IsQuiet m (actors_of m) c ⊎ (to_come m (steps m (actors_of m) c) < to_come m c) }
+    ensures settles { (m : MachineData) (c : Core) → IsMachine m → Sound m c → NobodyHolds c → (d : Core) × (s : Settles m (actors_of m) c d) × (s.0 ≤ to_come m c) }
+    ensures once { (m : MachineData) (names : List Actor) (c d e : Core) → Settles m names c d → Settles m names c e → d ≡ e }
 {}

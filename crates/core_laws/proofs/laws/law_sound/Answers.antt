@@ -1,5 +1,6 @@
 use Rattle.core_laws.proofs.Saying.{as_said}
 use Rattle.core_laws.proofs.Steps.{sound_all, sound_first, sound_step}
+use Rattle.core_laws.proofs.Unsaying.{unsaid}
 use Rattle.core_laws.proofs.laws.law_sound.Goals as goal
 
 pub returns-clause-first : goal.returns-clause-first
@@ -12,4 +13,12 @@ pub returns-clause-all : goal.returns-clause-all
 returns-clause-all c = sound_all
 
 pub returns-clause-said : goal.returns-clause-said
-returns-clause-said c = λ m core h. as_said m.devices core h.core
+returns-clause-said c = λ m core h. record {
+  legal = h.legal;
+  kinds = h.core.kinds;
+  lock = as_said m.devices core h.core;
+  pulses = record { start = h.core.pinned.start; counts = h.core.pinned.counts; some_clear = h.core.pinned.some_clear; collected = h.core.pinned.collected };
+}
+
+pub returns-clause-unsaid : goal.returns-clause-unsaid
+returns-clause-unsaid c = λ m core ok said. unsaid m core ok said
