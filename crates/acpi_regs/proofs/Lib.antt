@@ -1,2 +1,10 @@
 pub mod Exact
+pub mod Halves
+pub mod Latching
+pub mod LockActors
+pub mod LockPast
+pub mod LockSteps
+pub mod LockTurns
 pub mod Names
+pub mod PinSteps
+pub mod Pins

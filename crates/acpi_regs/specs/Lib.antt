@@ -1,6 +1,8 @@
 pub mod Actor
 pub mod Comparisons
 pub mod Core
+pub mod CoreEvents
+pub mod CoreSound
 pub mod Event
 pub mod Flags
 pub mod Geometry

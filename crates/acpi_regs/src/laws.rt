@@ -30,6 +30,8 @@ ghost use Rattle.acpi_regs.specs.contracts.event.FixedOrd.TheImpl as fixed_ord;
 ghost use Rattle.acpi_regs.specs.contracts.event.EventOrd.TheImpl as event_ord;
 ghost use Rattle.acpi_regs.specs.contracts.actor.ActorOrd.TheImpl as actor_ord;
 
+pub mod soundness;
+
 use crate::{
     Actor, BadGeometry, Cell, Deed, EcStatus, Effect, Entry, Event, Fixed, GeometryField, GpePlace,
     HostMove, Listed, LockPhase, Memory, MethodName, NotAName, Pm1Bits, Pulse, Request, Side,

@@ -8,8 +8,9 @@
 //! The contracts cite the tables of ACPI in `specs/` (`Event`, `Geometry`, `Names`), and the crates above cite the
 //! definitions of histories there: the entries of one actor, the owner and the seekers of the Global Lock, its signals, and
 //! the side on which an actor stands. So they do for what actors share between their steps: the core, with each actor's
-//! phase (`Core`, `Phases`). [`laws`] has what follows from the definitions: `==` holds between equal values
-//! alone, events and actors come in their order, and names and places fit each other.
+//! phase (`Core`, `Phases`), what may happen to it in one atomic step (`CoreEvents`), and when it is sound (`CoreSound`).
+//! [`laws`] has what follows from the definitions: `==` holds between equal values alone, events and actors come in their
+//! order, names and places fit each other, and each step leads from a sound core to a sound one.
 #![tactic(auto)]
 
 mod actor;

@@ -51,11 +51,11 @@ use Rattle.machine_history.proofs.Stages.{Away, Busied, Disowned, Follows, Owned
 
 -- ---- plans and the lock
 
-pass : (p : Plan) (x : Act) (held : Bool) (byte : ℕ) → next_act p ≡ Some x → Locked held p → Locked (held_by x held) (plan_after byte p)
+pub pass : (p : Plan) (x : Act) (held : Bool) (byte : ℕ) → next_act p ≡ Some x → Locked held p → Locked (held_by x held) (plan_after byte p)
 pass End x held byte next all = cc
 pass (Do needs a rest) x held byte next all = subst (λ y. Locked (held_by y held) (rest byte)) (some-injective a x next) (all.2 byte)
 
-ended : (p : Plan) (held : Bool) → next_act p ≡ None → Locked held p → held ≡ false
+pub ended : (p : Plan) (held : Bool) → next_act p ≡ None → Locked held p → held ≡ false
 ended End held none all = all
 ended (Do needs a rest) held none all = cc
 
@@ -70,7 +70,7 @@ handler_locked : (m : MachineData) (found : Option (List Op)) → ((ops : List O
 handler_locked m None each = refl
 handler_locked m (Some ops) each = locked m.fields ops (each ops refl).accepted
 
-first_locked : (m : MachineData) → IsMachine m → (a : Actor) → Locked false (first_plan m a)
+pub first_locked : (m : MachineData) → IsMachine m → (a : Actor) → Locked false (first_plan m a)
 first_locked m ok (actor.Firmware k) = handler_locked m (slice_get m.firmware k) (λ ops is. each_all (IsHandler m side.Firmware) m.firmware ok.firmware k ops is)
 first_locked m ok _ = refl
 
@@ -90,7 +90,7 @@ code_locked m q (h ∷ queries) each = at (nat_eq h.code q) (code_locked m q que
     at true rest = locked m.fields h.script (each zero h refl).script.accepted
     at false rest = rest
 
-job_locked : (m : MachineData) → IsMachine m → (j : Option Job) → Locked false (job_plan m j)
+pub job_locked : (m : MachineData) → IsMachine m → (j : Option Job) → Locked false (job_plan m j)
 job_locked m ok None = refl
 job_locked m ok (Some (job.Event n)) = event_locked m n m.events (each_all (IsListed m) m.events ok.events)
 job_locked m ok (Some job.Query) = (refl, refl, λ b. (refl, refl, λ b. (refl, refl, λ b. refl)))
@@ -98,10 +98,10 @@ job_locked m ok (Some (job.Code q)) = code_locked m q (queries_in m) (each_all (
 
 -- ---- the plan that is left stands at the actor's stage
 
-abbrev Guarded : Stage → Plan → Type 0
+abbrev pub Guarded : Stage → Plan → Type 0
 Guarded st p = Locked (is_owned st) p
 
-at_stage : (st s : Stage) (p : Plan) (b : Bool) → st ≡ s → is_owned s ≡ b → Guarded st p → Locked b p
+pub at_stage : (st s : Stage) (p : Plan) (b : Bool) → st ≡ s → is_owned s ≡ b → Guarded st p → Locked b p
 at_stage st s p b is same guarded = subst (λ x. Locked x p) (ap is_owned is ∙ same) guarded
 
 no_lock : (x : Act) (held : Bool) → (x ≡ act.Lock → ⊥) → (x ≡ act.Unlock → ⊥) → held_by x held ≡ held
@@ -170,7 +170,7 @@ own_guarded m ok past a (deed.Up n) allowed f k guarded = plain_guarded m past a
 own_guarded m ok past a (deed.Down n) allowed f k guarded = plain_guarded m past a (deed.Down n) 0 refl (hold m past a (deed.Down n) allowed).1.1.0 guarded
 own_guarded m ok past a _ allowed f k guarded = guarded
 
-guarded : (m : MachineData) → IsMachine m → (a : Actor) (past : List Entry) → LegalPast m past → Guarded (stage a past) (plan_left m past a)
+pub guarded : (m : MachineData) → IsMachine m → (a : Actor) (past : List Entry) → LegalPast m past → Guarded (stage a past) (plan_left m past a)
 guarded m ok a [] legal = first_locked m ok a
 guarded m ok a (e ∷ past) legal = at (same_actor a e.actor) refl (guarded m ok a past legal.1)
   where

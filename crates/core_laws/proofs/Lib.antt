@@ -1,0 +1,12 @@
+pub mod Asking
+pub mod Deadlock
+pub mod Giving
+pub mod Pending
+pub mod Ranges
+pub mod Resting
+pub mod Saying
+pub mod Settling
+pub mod Stalls
+pub mod Starting
+pub mod Suits
+pub mod Steps

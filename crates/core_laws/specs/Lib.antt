@@ -1,0 +1,7 @@
+pub mod Codes
+pub mod CoreSteps
+pub mod Gives
+pub mod Rounds
+pub mod Said
+pub mod Sound
+pub mod Stuck
