@@ -44,6 +44,13 @@ impl Device {
         }
     }
 
+    /// Its number.
+    pub fn number(&self) -> u8
+        ensures { result ≡ self.now.number }
+    {
+        self.number
+    }
+
     /// One step: it pulses the next event of its list. It answers Ended where its list is through.
     ///
     /// `machine` is the machine of the world's board. Where the world asks it, the event is the next of the device's list.

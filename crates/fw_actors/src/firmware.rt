@@ -33,6 +33,13 @@ impl Firmware {
         }
     }
 
+    /// Its number.
+    pub fn number(&self) -> u8
+        ensures { result ≡ self.now.number }
+    {
+        self.number
+    }
+
     /// One step: the entry for the next act of its script, where the board allows it. While it competes for the Global Lock
     /// its phase says what is next: an attempt, a release, or an entry. It answers Ended where its script has ended and it
     /// does not compete.

@@ -33,6 +33,13 @@ impl Worker {
         }
     }
 
+    /// Its number.
+    pub fn number(&self) -> u8
+        ensures { result ≡ self.now.number }
+    {
+        self.number
+    }
+
     /// One step: the entry for the next act of its job, where the board allows it; between two jobs it finishes the one that
     /// it runs, or starts the next that waits. While it competes for the Global Lock its phase says what is next: an attempt,
     /// a release, or an entry.

@@ -1,0 +1,8 @@
+pub mod AnyStep
+pub mod Lessening
+pub mod Once
+pub mod Pinned
+pub mod Placing
+pub mod RowSteps
+pub mod Rows
+pub mod Served
