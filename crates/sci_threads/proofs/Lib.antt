@@ -1,7 +1,6 @@
 pub mod AnyStep
 pub mod Lessening
 pub mod Once
-pub mod Pinned
 pub mod Placing
 pub mod RowSteps
 pub mod Rows

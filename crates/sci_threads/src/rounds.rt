@@ -4,13 +4,14 @@ ghost use Rattle.acpi_regs.specs.Core.{first_core};
 ghost use Rattle.machine_desc.specs.Actors.{actors_of, ec_count};
 ghost use Rattle.machine_desc.specs.Kept.{counts_in};
 ghost use Rattle.machine_desc.specs.Rules.{has_actor};
+ghost use Rattle.machine_history.specs.Complete.{Complete};
 ghost use Rattle.machine_history.specs.Played.{Played, Settles, steps};
 ghost use Rattle.sci_threads.specs.Actors.{IsSound, core_in, who};
 ghost use Rattle.sci_threads.specs.Rounds.{Begins, RowDone, StepDone};
 
 use crate::AnyActor;
 use acpi_regs::Actor;
-use core_laws::laws::law_gives;
+use core_laws::laws::{law_gives, law_latches, law_no_deadlock};
 use machine_desc::Machine;
 use world::{SerialWorld, StepOutcome};
 
@@ -33,6 +34,7 @@ fn step_at(
 {
     machine.law_rules();
     law_gives();
+    law_latches();
     actors[k].step(machine, world)
 }
 
@@ -58,7 +60,7 @@ fn round(world: &mut SerialWorld, machine: &Machine, actors: &mut Vec<AnyActor>)
 /// Makes rounds, one step of each actor in the order in which they are served, until one in which nobody did anything.
 ///
 /// `machine` is the machine of the world's board, and `actors` are all its actors, in their order. Beside the world they make
-/// a sound core.
+/// a sound core. The history that is left begins with the one that was there, and is complete: nothing deadlocks.
 pub fn drain(world: &mut SerialWorld, machine: &Machine, actors: &mut Vec<AnyActor>)
     requires machine { world.old.board.machine ≡ machine.now }
     requires actors { map who actors.old.items ≡ actors_of machine.now }
@@ -68,8 +70,11 @@ pub fn drain(world: &mut SerialWorld, machine: &Machine, actors: &mut Vec<AnyAct
     ensures sound { IsSound machine.now (core_in world.new actors.new.items) }
     ensures settles { Settles machine.now (actors_of machine.now) (core_in world.old actors.old.items) (core_in world.new actors.new.items) }
     ensures begins { Begins world.old.board.entries world.new.board.entries }
+    ensures complete { Complete machine.now world.new.board.entries }
 {
     while round(world, machine, actors) {}
+    machine.law_rules();
+    law_no_deadlock();
 }
 
 /// The place of an actor of the machine in the order in which actors are served.
@@ -114,6 +119,7 @@ pub fn run_schedule(world: &mut SerialWorld, machine: &Machine, actors: &mut Vec
     ensures sound { IsSound machine.now (core_in world.new actors.new.items) }
     ensures settles { Settles machine.now (actors_of machine.now)
         (steps machine.now machine.now.schedule (core_in world.old actors.old.items)) (core_in world.new actors.new.items) }
+    ensures complete { Complete machine.now world.new.board.entries }
     ensures played { core_in world.old actors.old.items ≡ first_core → Played machine.now world.new.board.entries }
 {
     make_steps(world, machine, actors);
