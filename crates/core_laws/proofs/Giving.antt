@@ -19,7 +19,7 @@ use Rattle.acpi_regs.specs.CoreEvents.{Collect, CoreEvent, Exchange, LatchesFirs
 use Rattle.facs_word.specs.Word.{acquired}
 use Rattle.acpi_regs.specs.CoreSound.{CoreSound, PinsSound, latches, listed_pulses, times}
 =======
-use Rattle.acpi_regs.specs.CoreEvents.{Collect, CoreEvent, LatchesFirst, OthersFree, Turn, acquired, collected, entry, exchanged, freed, has_collected, has_no_latch, in_hand, is_holding, is_host, is_latch, loaded, lock_deeds, may_add, moved_all, moved_in, next_pulse, one, past_in, pulsed, pulses_in, tried, turned}
+use Rattle.acpi_regs.specs.CoreEvents.{Collect, CoreEvent, LatchesFirst, OthersFree, Turn, collected, entry, exchanged, freed, has_collected, has_no_latch, in_hand, is_holding, is_host, is_latch, loaded, lock_deeds, may_add, moved_all, moved_in, next_pulse, one, past_in, pulsed, pulses_in, tried, turned}
 use Rattle.acpi_regs.specs.CoreSound.{PinsSound, latches, listed_pulses, times}
 >>>>>>> 696e61a7ea3d8b269fb5f0ab4852a710a0b18bb7
 use Rattle.acpi_regs.specs.Event.{event_rank, same_event, word_of}

@@ -10,7 +10,8 @@ use Rattle.acpi_regs.specs.declared.event.Event.{Event}
 use Rattle.acpi_regs.specs.declared.phase.LockPhase.{LockPhase}
 use Rattle.acpi_regs.specs.declared.phase.LockPhase.TheVariants as phase
 use Rattle.acpi_regs.specs.Core.{Core, events_of}
-use Rattle.acpi_regs.specs.CoreEvents.{is_host, is_owned, is_pending, list_of, past_in, pulses_in, tried}
+use Rattle.acpi_regs.specs.CoreEvents.{is_host, list_of, past_in, pulses_in, tried}
+use Rattle.facs_word.specs.Word.{is_owned, is_pending}
 use Rattle.acpi_regs.specs.CoreSound.{is_kind, lock_phase, sum_below}
 use Rattle.acpi_regs.specs.Phases.{Free, Holding, Lock, Phase, Pulsed, put}
 use Rattle.acpi_regs.proofs.LockActors.{by_cases, put_other, put_self}
