@@ -14,14 +14,9 @@ use Rattle.acpi_regs.specs.declared.phase.LockPhase.TheVariants as phase
 use Rattle.acpi_regs.specs.declared.phase.Pulse.{Pulse}
 use Rattle.acpi_regs.specs.Actor.{same_actor}
 use Rattle.acpi_regs.specs.Core.{Core, all_events, event_at, events_below, events_of, first_core, if_in, no_event}
-<<<<<<< HEAD
-use Rattle.acpi_regs.specs.CoreEvents.{Collect, CoreEvent, Exchange, LatchesFirst, Load, OthersFree, Release, Turn, collected, entry, exchanged, freed, has_collected, has_no_latch, in_hand, is_holding, is_host, is_latch, loaded, lock_deeds, may_add, moved_all, moved_in, next_pulse, one, past_in, pulsed, pulses_in, tried, turned}
-use Rattle.facs_word.specs.Word.{acquired}
-use Rattle.acpi_regs.specs.CoreSound.{CoreSound, PinsSound, latches, listed_pulses, times}
-=======
 use Rattle.acpi_regs.specs.CoreEvents.{Collect, CoreEvent, LatchesFirst, OthersFree, Turn, collected, entry, exchanged, freed, has_collected, has_no_latch, in_hand, is_holding, is_host, is_latch, loaded, lock_deeds, may_add, moved_all, moved_in, next_pulse, one, past_in, pulsed, pulses_in, tried, turned}
+use Rattle.facs_word.specs.Word.{acquired}
 use Rattle.acpi_regs.specs.CoreSound.{PinsSound, latches, listed_pulses, times}
->>>>>>> 696e61a7ea3d8b269fb5f0ab4852a710a0b18bb7
 use Rattle.acpi_regs.specs.Event.{event_rank, same_event, word_of}
 use Rattle.acpi_regs.specs.Phases.{Free, Holding, Lock, Phase, Pulsed, allows, is_idle, is_lock_deed, put}
 use Rattle.acpi_regs.proofs.Halves.{one_most}

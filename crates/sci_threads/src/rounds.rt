@@ -4,21 +4,14 @@ ghost use Rattle.acpi_regs.specs.Core.{first_core};
 ghost use Rattle.machine_desc.specs.Actors.{actors_of, ec_count};
 ghost use Rattle.machine_desc.specs.Kept.{counts_in};
 ghost use Rattle.machine_desc.specs.Rules.{has_actor};
-<<<<<<< HEAD
-=======
 ghost use Rattle.machine_history.specs.Complete.{Complete};
->>>>>>> bd3a0856ab5959cfa8cf674c549f0d7084d3e20c
 ghost use Rattle.machine_history.specs.Played.{Played, Settles, steps};
 ghost use Rattle.sci_threads.specs.Actors.{IsSound, core_in, who};
 ghost use Rattle.sci_threads.specs.Rounds.{Begins, RowDone, StepDone};
 
 use crate::AnyActor;
 use acpi_regs::Actor;
-<<<<<<< HEAD
-use core_laws::laws::law_gives;
-=======
 use core_laws::laws::{law_gives, law_latches, law_no_deadlock};
->>>>>>> bd3a0856ab5959cfa8cf674c549f0d7084d3e20c
 use machine_desc::Machine;
 use world::{SerialWorld, StepOutcome};
 
@@ -41,10 +34,7 @@ fn step_at(
 {
     machine.law_rules();
     law_gives();
-<<<<<<< HEAD
-=======
     law_latches();
->>>>>>> bd3a0856ab5959cfa8cf674c549f0d7084d3e20c
     actors[k].step(machine, world)
 }
 
@@ -70,11 +60,7 @@ fn round(world: &mut SerialWorld, machine: &Machine, actors: &mut Vec<AnyActor>)
 /// Makes rounds, one step of each actor in the order in which they are served, until one in which nobody did anything.
 ///
 /// `machine` is the machine of the world's board, and `actors` are all its actors, in their order. Beside the world they make
-<<<<<<< HEAD
-/// a sound core.
-=======
 /// a sound core. The history that is left begins with the one that was there, and is complete: nothing deadlocks.
->>>>>>> bd3a0856ab5959cfa8cf674c549f0d7084d3e20c
 pub fn drain(world: &mut SerialWorld, machine: &Machine, actors: &mut Vec<AnyActor>)
     requires machine { world.old.board.machine ≡ machine.now }
     requires actors { map who actors.old.items ≡ actors_of machine.now }
@@ -84,16 +70,11 @@ pub fn drain(world: &mut SerialWorld, machine: &Machine, actors: &mut Vec<AnyAct
     ensures sound { IsSound machine.now (core_in world.new actors.new.items) }
     ensures settles { Settles machine.now (actors_of machine.now) (core_in world.old actors.old.items) (core_in world.new actors.new.items) }
     ensures begins { Begins world.old.board.entries world.new.board.entries }
-<<<<<<< HEAD
-{
-    while round(world, machine, actors) {}
-=======
     ensures complete { Complete machine.now world.new.board.entries }
 {
     while round(world, machine, actors) {}
     machine.law_rules();
     law_no_deadlock();
->>>>>>> bd3a0856ab5959cfa8cf674c549f0d7084d3e20c
 }
 
 /// The place of an actor of the machine in the order in which actors are served.
@@ -138,10 +119,7 @@ pub fn run_schedule(world: &mut SerialWorld, machine: &Machine, actors: &mut Vec
     ensures sound { IsSound machine.now (core_in world.new actors.new.items) }
     ensures settles { Settles machine.now (actors_of machine.now)
         (steps machine.now machine.now.schedule (core_in world.old actors.old.items)) (core_in world.new actors.new.items) }
-<<<<<<< HEAD
-=======
     ensures complete { Complete machine.now world.new.board.entries }
->>>>>>> bd3a0856ab5959cfa8cf674c549f0d7084d3e20c
     ensures played { core_in world.old actors.old.items ≡ first_core → Played machine.now world.new.board.entries }
 {
     make_steps(world, machine, actors);

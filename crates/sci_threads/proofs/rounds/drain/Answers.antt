@@ -20,8 +20,6 @@ returns-clause-begins c =
     let old = core_in c.args.world.now c.args.actors.now.items in
     let new = core_in c.round.new.world c.round.new.actors.items in
     settled-begins m (actors_of m) old new (settles m old (core_in c.loop.world c.loop.actors.items) new c.round.result c.loop.invariant.rounds c.round.ensures.round c.loop-test.false)
-<<<<<<< HEAD
-=======
 
 pub returns-clause-complete : goal.returns-clause-complete
 returns-clause-complete c =
@@ -29,4 +27,3 @@ returns-clause-complete c =
     let old = core_in c.args.world.now c.args.actors.now.items in
     let new = core_in c.round.new.world c.round.new.actors.items in
     c.law_no_deadlock.ensures.settled m old new c.law_rules.ensures c.requires.sound.sound c.requires.sound.nobody (settles m old (core_in c.loop.world c.loop.actors.items) new c.round.result c.loop.invariant.rounds c.round.ensures.round c.loop-test.false)
->>>>>>> bd3a0856ab5959cfa8cf674c549f0d7084d3e20c

@@ -1,19 +1,11 @@
 use Rattle.std.proofs.Common.{◌≡◌, Some, slice_get, ap, sym, ◌∙◌}
 use Rattle.std.proofs.lemmas.Option.{slice_get-get_or}
 use Rattle.sci_threads.specs.Actors.{core_in}
-<<<<<<< HEAD
-use Rattle.sci_threads.proofs.Pinned.{pins-latchable}
-=======
->>>>>>> bd3a0856ab5959cfa8cf674c549f0d7084d3e20c
 use Rattle.sci_threads.proofs.RowSteps.{row-step}
 use Rattle.sci_threads.proofs.rounds.step_at.Goals as goal
 
 pub step-requires-clause-latchable : goal.step-requires-clause-latchable
-<<<<<<< HEAD
-step-requires-clause-latchable c = pins-latchable c.args.machine.now (core_in c.args.world.now c.args.actors.now.items) c.requires.sound.sound
-=======
 step-requires-clause-latchable c = λ n is. c.law_latches.ensures.fewer c.args.machine.now (core_in c.args.world.now c.args.actors.now.items) n c.requires.sound.sound is
->>>>>>> bd3a0856ab5959cfa8cf674c549f0d7084d3e20c
 
 pub returns-clause-actors : goal.returns-clause-actors
 returns-clause-actors c =
