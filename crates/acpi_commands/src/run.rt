@@ -14,14 +14,14 @@ use crate::command::Command;
 use crate::prepared::Prepared;
 use crate::status::Status;
 use acpi_io::{Sink, WriteFault};
-use core_laws::laws::{law_gives, law_no_deadlock, law_sound};
+use core_laws::laws::{law_gives, law_sound};
 use history_text::write_log;
 use lock_table::{Bits, Words};
 use machine_core::Board;
 use machine_desc::Machine;
 use machine_history::laws::{
-    law_claims_consume, law_codes_in_order, law_exclusion, law_jobs_in_order, law_reads_last,
-    law_scripts_once,
+    law_claims_consume, law_codes_in_order, law_complete_legal, law_exclusion, law_jobs_in_order,
+    law_reads_last, law_scripts_once,
 };
 use machine_reader::{read_machine, write_machine};
 use sci_threads::{AnyActor, all_actors, drain, run_schedule};
@@ -36,6 +36,7 @@ pub fn run<K: Sink>(alloc: Global, command: Command, bytes: &[u8], sink: &mut K)
     ensures cause { result ≡ Status.WriteFault → RoseByOne (K.faults sink.old) (K.faults sink.new) }
     ensures told { ¬ result ≡ Status.WriteFault → K.faults sink.new ≡ K.faults sink.old }
 {
+    law_complete_legal();
     law_scripts_once();
     law_jobs_in_order();
     law_reads_last();
@@ -43,10 +44,13 @@ pub fn run<K: Sink>(alloc: Global, command: Command, bytes: &[u8], sink: &mut K)
     law_codes_in_order();
     law_claims_consume();
     match prepare_run(alloc, bytes) {
-        Ok(prepared) => match carry_out(command, prepared, sink) {
-            Ok(()) => Status::Ok,
-            Err(WriteFault) => Status::WriteFault,
-        },
+        Ok(prepared) => {
+            prepared.machine.law_rules();
+            match carry_out(command, prepared, sink) {
+                Ok(()) => Status::Ok,
+                Err(WriteFault) => Status::WriteFault,
+            }
+        }
         Err(refusal) => refusal,
     }
 }
@@ -71,9 +75,18 @@ fn prepared(alloc: Global, machine: Machine) -> Option<Prepared>
     requires { weight_of machine ≤ 1048576 }
     ensures { IfSome result (λ p. p.machine ≡ machine) }
 {
-    let text = write_machine(alloc, &machine).ok()?;
-    let actors = all_actors(alloc, &machine).ok()?;
-    let board = Board::new(alloc, machine.copied(alloc).ok()?).ok()?;
+    let Ok(text) = write_machine(alloc, &machine) else {
+        return None;
+    };
+    let Ok(actors) = all_actors(alloc, &machine) else {
+        return None;
+    };
+    let Ok(copy) = machine.copied(alloc) else {
+        return None;
+    };
+    let Ok(board) = Board::new(alloc, copy) else {
+        return None;
+    };
     let words = Words {
         facs: 0,
         pins: Bits::new(),
@@ -126,7 +139,6 @@ fn play(
     machine.law_rules();
     law_sound();
     law_gives();
-    law_no_deadlock();
     match command {
         Command::Run => drain(world, machine, actors),
         Command::Replay => run_schedule(world, machine, actors),

@@ -1,5 +1,5 @@
 use Rattle.acpi_commands.proofs.RunLemmas.{small_weight}
 use Rattle.acpi_commands.proofs.run.prepare_run.Goals as goal
 
-pub new-requires : goal.new-requires
-new-requires c = small_weight c.args.bytes.now c.in-Ok.machine c.in-Ok.ensures
+pub prepared-requires : goal.prepared-requires
+prepared-requires c = small_weight c.args.bytes.now c.in-Ok.machine c.in-Ok.ensures
