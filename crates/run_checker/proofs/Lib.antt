@@ -1,7 +1,7 @@
 mod Completing
 mod Given
 mod Lists
-mod OneVerdict
+pub mod OneVerdict
 mod Runs
 mod Steps
 mod Told
