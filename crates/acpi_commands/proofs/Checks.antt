@@ -33,12 +33,15 @@ refusal_no_fault bytes s refuses is = subst (RefusesLog bytes) is refuses
 -- ---- a complete log
 
 pub complete_of : (bytes : List ℕ) (m : MachineData) (entries : List Entry) (told : List Event) (last : ℕ) → bytes ≡ log_lines (canonical m) entries told last → IsReadBack m → All IsEntry entries → Judges m entries told last verdict.Complete → IsCompleteLog bytes m entries × (last ≡ length entries)
-complete_of bytes m entries told last is read named judged = (record {
-  text_is = is ∙ (ap (λ t. log_lines (canonical m) entries t last) judged.1.0 ∙ ap (λ n. log_lines (canonical m) entries (stuck m entries) n) judged.1.1);
-  read_back = read;
-  named = named;
-  complete = judged.0;
-}, judged.1.1)
+complete_of bytes m entries told last is read named judged = (
+  record {
+    text_is = is ∙ (ap (λ t. log_lines (canonical m) entries t last) judged.1.0 ∙ ap (λ n. log_lines (canonical m) entries (stuck m entries) n) judged.1.1);
+    read_back = read;
+    named = named;
+    complete = judged.0;
+  },
+  judged.1.1,
+)
 
 -- the events of a set have the numbers of their type
 event_named : (k : ℕ) → k < 261 → IsEvent (event_at k)

@@ -30,7 +30,6 @@ use Rattle.acpi_commands.specs.Headline.{OneRunEach, Ran}
 use Rattle.acpi_commands.specs.Check.{FromLog}
 use Rattle.acpi_commands.specs.Run.{Answers, ByCommand, Completes, Does, FromBytes, IsTaken, ReadsWhole, Refuses, status_of}
 use Rattle.acpi_commands.specs.Words.{IsCommand, limit_of, word_of}
-
 use Rattle.history_text.proofs.Described.{not_refused}
 use Rattle.acpi_commands.proofs.Checks.{IsDone, log_done}
 
