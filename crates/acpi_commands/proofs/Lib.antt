@@ -1,3 +1,4 @@
+pub mod Checks
 pub mod Exact
 pub mod RunLemmas
 pub mod Starting

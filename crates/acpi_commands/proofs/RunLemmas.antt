@@ -27,8 +27,11 @@ use Rattle.acpi_commands.specs.declared.command.Command.TheVariants as command
 use Rattle.acpi_commands.specs.declared.status.Status.{Status}
 use Rattle.acpi_commands.specs.declared.status.Status.TheVariants as status
 use Rattle.acpi_commands.specs.Headline.{OneRunEach, Ran}
-use Rattle.acpi_commands.specs.Run.{Answers, ByCommand, Completes, FromBytes, IsTaken, ReadsWhole, Refuses, status_of}
+use Rattle.acpi_commands.specs.Check.{FromLog}
+use Rattle.acpi_commands.specs.Run.{Answers, ByCommand, Completes, Does, FromBytes, IsTaken, ReadsWhole, Refuses, status_of}
 use Rattle.acpi_commands.specs.Words.{IsCommand, limit_of, word_of}
+use Rattle.history_text.proofs.Described.{not_refused}
+use Rattle.acpi_commands.proofs.Checks.{IsDone, log_done}
 
 -- ---- the sentences of the headline
 
@@ -55,21 +58,50 @@ ran bytes m history describes complete scripts_once jobs_once jobs_done last own
 
 -- ---- from the bytes to the command
 
--- a status that rests on bytes which were read whole
-pub by_command : (c : Command) (sink_kept : Type 0) (left left' held held' : Option (List ℕ)) (bytes : List ℕ) (s : Status) → ReadsWhole (limit_of c) left left' bytes → FromBytes c bytes sink_kept held held' s → ByCommand c sink_kept left left' held held' s
-by_command c sink_kept left left' held held' bytes status.ReadFault whole from = absurd from.1
-by_command c sink_kept left left' held held' bytes status.TooLarge whole from = absurd from.1
-by_command c sink_kept left left' held held' bytes status.Memory whole from = (from.0, (bytes, whole.0, whole.1))
-by_command c sink_kept left left' held held' bytes status.Ok whole from = (bytes, whole, from)
-by_command c sink_kept left left' held held' bytes status.Usage whole from = (bytes, whole, from)
-by_command c sink_kept left left' held held' bytes status.NotJson whole from = (bytes, whole, from)
-by_command c sink_kept left left' held held' bytes (status.BadShape path) whole from = (bytes, whole, from)
-by_command c sink_kept left left' held held' bytes (status.BadMachine bad) whole from = (bytes, whole, from)
-by_command c sink_kept left left' held held' bytes (status.TooLong weight) whole from = (bytes, whole, from)
-by_command c sink_kept left left' held held' bytes status.WriteFault whole from = (bytes, whole, from)
+-- a status that rests on bytes which were read whole: of a description
+by_run : (c : Command) (sink_kept : Type 0) (left left' held held' : Option (List ℕ)) (bytes : List ℕ) (s : Status) → ((t : Status) → FromBytes c bytes sink_kept held held' t → Does c bytes sink_kept held held' t) → ReadsWhole (limit_of c) left left' bytes → FromBytes c bytes sink_kept held held' s → ByCommand c sink_kept left left' held held' s
+by_run c sink_kept left left' held held' bytes status.ReadFault does whole from = absurd from.1
+by_run c sink_kept left left' held held' bytes status.TooLarge does whole from = absurd from.1
+by_run c sink_kept left left' held held' bytes status.Memory does whole from = (from.0, (bytes, whole.0, whole.1))
+by_run c sink_kept left left' held held' bytes status.Ok does whole from = (bytes, whole, does status.Ok from)
+by_run c sink_kept left left' held held' bytes status.Usage does whole from = (bytes, whole, does status.Usage from)
+by_run c sink_kept left left' held held' bytes status.NotJson does whole from = (bytes, whole, does status.NotJson from)
+by_run c sink_kept left left' held held' bytes (status.BadShape path) does whole from = (bytes, whole, does (status.BadShape path) from)
+by_run c sink_kept left left' held held' bytes (status.BadMachine bad) does whole from = (bytes, whole, does (status.BadMachine bad) from)
+by_run c sink_kept left left' held held' bytes (status.TooLong weight) does whole from = (bytes, whole, does (status.TooLong weight) from)
+by_run c sink_kept left left' held held' bytes status.WriteFault does whole from = (bytes, whole, does status.WriteFault from)
+by_run c sink_kept left left' held held' bytes (status.Illegal line broken) does whole from = absurd from.1
+by_run c sink_kept left left' held held' bytes (status.Unfinished a) does whole from = absurd from.1
+by_run c sink_kept left left' held held' bytes (status.BadLog n) does whole from = absurd from.1
+
+-- and of a log
+by_check : (sink_kept : Type 0) (left left' held held' : Option (List ℕ)) (bytes : List ℕ) (s : Status) → ReadsWhole (limit_of command.Check) left left' bytes → FromLog bytes sink_kept held held' s → ByCommand command.Check sink_kept left left' held held' s
+by_check sink_kept left left' held held' bytes status.ReadFault whole from = absurd from.1
+by_check sink_kept left left' held held' bytes status.TooLarge whole from = absurd from.1
+by_check sink_kept left left' held held' bytes status.Memory whole from = (from.0, (bytes, whole.0, whole.1))
+by_check sink_kept left left' held held' bytes status.Ok whole from = (bytes, whole, from)
+by_check sink_kept left left' held held' bytes status.WriteFault whole from = (bytes, whole, from)
+by_check sink_kept left left' held held' bytes (status.Illegal line broken) whole from = (bytes, whole, from)
+by_check sink_kept left left' held held' bytes (status.Unfinished a) whole from = (bytes, whole, from)
+by_check sink_kept left left' held held' bytes (status.BadLog n) whole from = (bytes, whole, from)
+by_check sink_kept left left' held held' bytes status.Usage whole from = absurd from.1
+by_check sink_kept left left' held held' bytes status.NotJson whole from = absurd from.1
+by_check sink_kept left left' held held' bytes (status.BadShape path) whole from = absurd from.1
+by_check sink_kept left left' held held' bytes (status.BadMachine bad) whole from = absurd from.1
+by_check sink_kept left left' held held' bytes (status.TooLong weight) whole from = absurd from.1
+
+pub by_command : (c : Command) (sink_kept : Type 0) (left left' held held' : Option (List ℕ)) (bytes : List ℕ) (s : Status) → ReadsWhole (limit_of c) left left' bytes → Does c bytes sink_kept held held' s → ByCommand c sink_kept left left' held held' s
+by_command command.Run sink_kept left left' held held' bytes s whole does = by_run command.Run sink_kept left left' held held' bytes s (λ t from. from) whole does
+by_command command.Replay sink_kept left left' held held' bytes s whole does = by_run command.Replay sink_kept left left' held held' bytes s (λ t from. from) whole does
+by_command command.Check sink_kept left left' held held' bytes s whole does = by_check sink_kept left left' held held' bytes s whole does
+
+no_usage : (c : Command) (bytes : List ℕ) (sink_kept : Type 0) (held held' : Option (List ℕ)) → Does c bytes sink_kept held held' status.Usage → ⊥
+no_usage command.Run bytes sink_kept held held' does = does.1
+no_usage command.Replay bytes sink_kept held held' does = does.1
+no_usage command.Check bytes sink_kept held held' does = does.1
 
 pub answered : (words : List (String Global)) (source_kept sink_kept : Type 0) (left left' held held' : Option (List ℕ)) (c : Command) (s : Status) → IsCommand words c → ByCommand c sink_kept left left' held held' s → Answers words source_kept sink_kept left left' held held' s
-answered words source_kept sink_kept left left' held held' c status.Usage is by = absurd by.2.1
+answered words source_kept sink_kept left left' held held' c status.Usage is by = absurd (no_usage c by.0 sink_kept held held' by.2)
 answered words source_kept sink_kept left left' held held' c status.Ok is by = (c, is, by)
 answered words source_kept sink_kept left left' held held' c status.NotJson is by = (c, is, by)
 answered words source_kept sink_kept left left' held held' c (status.BadShape path) is by = (c, is, by)
@@ -79,6 +111,9 @@ answered words source_kept sink_kept left left' held held' c status.ReadFault is
 answered words source_kept sink_kept left left' held held' c status.WriteFault is by = (c, is, by)
 answered words source_kept sink_kept left left' held held' c status.Memory is by = (c, is, by)
 answered words source_kept sink_kept left left' held held' c status.TooLarge is by = (c, is, by)
+answered words source_kept sink_kept left left' held held' c (status.Illegal line broken) is by = (c, is, by)
+answered words source_kept sink_kept left left' held held' c (status.Unfinished a) is by = (c, is, by)
+answered words source_kept sink_kept left left' held held' c (status.BadLog n) is by = (c, is, by)
 
 -- all bytes that a source tells were read
 whole_is : (bytes read : List ℕ) (left left' : Option (List ℕ)) → left ≡ Some bytes → Consumes left left' read → IsAtEnd left' → bytes ≡ read
@@ -100,29 +135,6 @@ taken_within bytes taken (Some xs) (Some ys) told consumed =
 too_many : (taken bytes most : ℕ) → taken ≡ most + 1 → taken ≤ bytes → bytes ≤ most → ⊥
 too_many taken bytes most exact within few = omega arith
 
--- bytes are JSON of one value
-same_value : (bytes : List ℕ) (d e : Data) → IsJson bytes d → IsJson bytes e → d ≡ e
-same_value bytes d e one other = some-injective d e (sym one.1 ∙ other.1)
-  where
-    some-injective : (x y : Data) → Some x ≡ Some y → x ≡ y
-    some-injective x y same = cc
-
-ok-injective : (r : Result MachineData ReaderFault) (x y : MachineData) → r ≡ Ok x → r ≡ Ok y → x ≡ y
-ok-injective (Ok z) x y one other = cc
-ok-injective (Err e) x y one other = cc
-
--- bytes describe one machine, or none
-described_once : (bytes : List ℕ) (m n : MachineData) → Describes bytes (Ok m) → Describes bytes (Ok n) → m ≡ n
-described_once bytes m n one other =
-    let same = same_value bytes one.0 other.0 one.1 other.1 in
-    ok-injective (machine_in one.0) m n one.2 (ap machine_in same ∙ other.2)
-
-not_refused : (bytes : List ℕ) (m : MachineData) (f : ReaderFault) → Describes bytes (Ok m) → ((d : Data) × IsJson bytes d × (machine_in d ≡ Err f)) → ⊥
-not_refused bytes m f describes refused =
-    let same = same_value bytes refused.0 describes.0 refused.1 describes.1 in
-    let other : Err f ≡ Ok m = sym refused.2 ∙ (ap machine_in same ∙ describes.2) in
-    cc
-
 -- ---- one command
 
 some_word : (x y : List ℕ) → x ∷ [] ≡ y ∷ [] → x ≡ y
@@ -131,45 +143,33 @@ some_word x y same = cc
 one_word : (c d : Command) → word_of c ≡ word_of d → c ≡ d
 one_word command.Run command.Run same = refl
 one_word command.Replay command.Replay same = refl
+one_word command.Check command.Check same = refl
 one_word command.Run command.Replay same = cc
+one_word command.Run command.Check same = cc
 one_word command.Replay command.Run same = cc
+one_word command.Replay command.Check same = cc
+one_word command.Check command.Run same = cc
+one_word command.Check command.Replay same = cc
 
 pub one_command : (words : List (String Global)) (c d : Command) → IsCommand words c → IsCommand words d → c ≡ d
 one_command words c d one other = one_word c d (some_word (word_of c) (word_of d) (sym one ∙ other))
 
 -- why the bytes of a machine are not taken: want of memory alone
-taken : (bytes : List ℕ) (m : MachineData) (s : Status) → Describes bytes (Ok m) → Refuses bytes s → s ≡ status.Memory
-taken bytes m status.NotJson describes refuses = absurd (refuses describes.0 describes.1)
-taken bytes m (status.BadShape path) describes refuses = absurd (not_refused bytes m (fault.BadShape path) describes refuses)
-taken bytes m (status.BadMachine bad) describes refuses = absurd (not_refused bytes m (fault.BadMachine bad) describes refuses)
-taken bytes m (status.TooLong weight) describes refuses = absurd (not_refused bytes m (fault.TooLong weight) describes refuses)
-taken bytes m status.Memory describes refuses = refl
-taken bytes m status.Ok describes refuses = absurd refuses
-taken bytes m status.Usage describes refuses = absurd refuses
-taken bytes m status.ReadFault describes refuses = absurd refuses
-taken bytes m status.WriteFault describes refuses = absurd refuses
-taken bytes m status.TooLarge describes refuses = absurd refuses
+taken : (c : Command) (bytes : List ℕ) (m : MachineData) (sink_kept : Type 0) (held held' : Option (List ℕ)) (s : Status) → Describes bytes (Ok m) → FromBytes c bytes sink_kept held held' s → IsDone s
+taken c bytes m sink_kept held held' status.NotJson describes from = absurd (from.1 describes.0 describes.1)
+taken c bytes m sink_kept held held' (status.BadShape path) describes from = absurd (not_refused bytes m (fault.BadShape path) describes from.1)
+taken c bytes m sink_kept held held' (status.BadMachine bad) describes from = absurd (not_refused bytes m (fault.BadMachine bad) describes from.1)
+taken c bytes m sink_kept held held' (status.TooLong weight) describes from = absurd (not_refused bytes m (fault.TooLong weight) describes from.1)
+taken c bytes m sink_kept held held' status.Memory describes from = inr (inl refl)
+taken c bytes m sink_kept held held' status.Ok describes from = inl refl
+taken c bytes m sink_kept held held' status.WriteFault describes from = inr (inr refl)
+taken c bytes m sink_kept held held' _ describes from = absurd from.1
 
--- ---- the weight of a machine that was read
-
-long : (b : Bool) (x m : MachineData) → nat_lt 1048576 (weight_of x) ≡ b → cond b (Err (fault.TooLong (weight_of x))) (Ok x) ≡ Ok m → weight_of m ≤ 1048576
-long true x m test is = cc
-long false x m test is = subst (λ y. weight_of y ≤ 1048576) (ok-injective (Ok x) x m refl is) (ltb-false 1048576 (weight_of x) test)
-
-unbroken : (parts : MachineParts) (o : Option BadMachine) (m : MachineData) → unless_broken parts o ≡ Ok m → weight_of m ≤ 1048576
-unbroken parts None m is = long (nat_lt 1048576 (weight_of (described parts))) (described parts) m refl is
-unbroken parts (Some bad) m is = cc
-
-shaped : (r : Reading MachineParts) (m : MachineData) → unless_misshapen r ≡ Ok m → weight_of m ≤ 1048576
-shaped (Ok parts) m is = unbroken parts (first_fault parts) m is
-shaped (Err path) m is = cc
-
-read_weight : (d : Data) (m : MachineData) → machine_in d ≡ Ok m → weight_of m ≤ 1048576
-unfolding machine_in
-read_weight d m is = shaped (shape d) m is
-
-pub small_weight : (bytes : List ℕ) (m : MachineData) → Describes bytes (Ok m) → weight_of m ≤ 1048576
-small_weight bytes m describes = read_weight describes.0 m describes.2
+-- what a command takes it does, but for want of memory and a failed write
+fulfilled : (c : Command) (bytes : List ℕ) (sink_kept : Type 0) (held held' : Option (List ℕ)) (s : Status) → length bytes ≤ limit_of c → IsTaken c bytes → Does c bytes sink_kept held held' s → IsDone s
+fulfilled command.Run bytes sink_kept held held' s few takes does = taken command.Run bytes takes.0 sink_kept held held' s takes.1 does
+fulfilled command.Replay bytes sink_kept held held' s few takes does = taken command.Replay bytes takes.0 sink_kept held held' s takes.1 does
+fulfilled command.Check bytes sink_kept held held' s few takes does = log_done bytes takes.0 takes.1 sink_kept held held' s few takes.2 does
 
 -- the status of a fault of the reader refuses the bytes
 pub refused : (bytes : List ℕ) (f : ReaderFault) → Describes bytes (Err f) → Refuses bytes (status_of f)
@@ -184,14 +184,21 @@ pub completes : (words : List (String Global)) (source_kept sink_kept read_rose 
 completes words source_kept sink_kept read_rose write_rose left left' held held' s answers read_cause write_cause = λ c bytes is told few takes no_read no_write. by_status s answers read_cause write_cause c bytes is told few takes no_read no_write
   where
     -- the bytes that were read are those that the source tells, for the command that the words are
-    from_read : (s : Status) (c d : Command) (bytes : List ℕ) → IsCommand words c → IsCommand words d → left ≡ Some bytes → IsTaken c bytes → (read : List ℕ) → ReadsWhole (limit_of d) left left' read → Refuses read s → s ≡ status.Memory
-    from_read s c d bytes is by told takes read whole refuses =
+    from_read : (s : Status) (c d : Command) (bytes : List ℕ) → IsCommand words c → IsCommand words d → left ≡ Some bytes → length bytes ≤ limit_of c → IsTaken c bytes → (read : List ℕ) → ReadsWhole (limit_of d) left left' read → Does d read sink_kept held held' s → IsDone s
+    from_read s c d bytes is by told few takes read whole does =
         let same = whole_is bytes read left left' told whole.1 whole.2 in
-        taken read takes.0 s (subst (λ b. Describes b (Ok takes.0)) same takes.1) refuses
+        let one = one_command words d c by is in
+        let its = subst (λ x. Does x read sink_kept held held' s) one does in
+        fulfilled c read sink_kept held held' s (subst (λ b. length b ≤ limit_of c) same few) (subst (IsTaken c) same takes) its
 
     too_long : (c d : Command) (bytes : List ℕ) → IsCommand words c → IsCommand words d → left ≡ Some bytes → length bytes ≤ limit_of c → (read : List ℕ) → length read ≡ limit_of d + 1 → Consumes left left' read → ⊥
     too_long c d bytes is by told few read exact consumed =
         too_many (length read) (length bytes) (limit_of c) (exact ∙ ap (λ x. limit_of x + 1) (one_command words d c by is)) (taken_within bytes read left left' told consumed) few
+
+    unless_fault : (s : Status) → (write_rose → ⊥) → (s ≡ status.WriteFault → write_rose) → IsDone s → (s ≡ status.Ok) ⊎ (s ≡ status.Memory)
+    unless_fault s no_write cause (inl ok) = inl ok
+    unless_fault s no_write cause (inr (inl memory)) = inr memory
+    unless_fault s no_write cause (inr (inr fault)) = absurd (no_write (cause fault))
 
     by_status : (s : Status) → Answers words source_kept sink_kept left left' held held' s → (s ≡ status.ReadFault → read_rose) → (s ≡ status.WriteFault → write_rose) → (c : Command) (bytes : List ℕ) → IsCommand words c → left ≡ Some bytes → length bytes ≤ limit_of c → IsTaken c bytes → (read_rose → ⊥) → (write_rose → ⊥) → (s ≡ status.Ok) ⊎ (s ≡ status.Memory)
     by_status status.Ok answers read_cause write_cause c bytes is told few takes no_read no_write = inl refl
@@ -200,7 +207,10 @@ completes words source_kept sink_kept read_rose write_rose left left' held held'
     by_status status.WriteFault answers read_cause write_cause c bytes is told few takes no_read no_write = absurd (no_write (write_cause refl))
     by_status status.Memory answers read_cause write_cause c bytes is told few takes no_read no_write = inr refl
     by_status status.TooLarge answers read_cause write_cause c bytes is told few takes no_read no_write = absurd (too_long c answers.0 bytes is answers.1 told few answers.2.1.0 answers.2.1.1 answers.2.1.2)
-    by_status status.NotJson answers read_cause write_cause c bytes is told few takes no_read no_write = inr (from_read status.NotJson c answers.0 bytes is answers.1 told takes answers.2.0 answers.2.1 answers.2.2.1)
-    by_status (status.BadShape path) answers read_cause write_cause c bytes is told few takes no_read no_write = inr (from_read (status.BadShape path) c answers.0 bytes is answers.1 told takes answers.2.0 answers.2.1 answers.2.2.1)
-    by_status (status.BadMachine bad) answers read_cause write_cause c bytes is told few takes no_read no_write = inr (from_read (status.BadMachine bad) c answers.0 bytes is answers.1 told takes answers.2.0 answers.2.1 answers.2.2.1)
-    by_status (status.TooLong weight) answers read_cause write_cause c bytes is told few takes no_read no_write = inr (from_read (status.TooLong weight) c answers.0 bytes is answers.1 told takes answers.2.0 answers.2.1 answers.2.2.1)
+    by_status status.NotJson answers read_cause write_cause c bytes is told few takes no_read no_write = unless_fault status.NotJson no_write write_cause (from_read status.NotJson c answers.0 bytes is answers.1 told few takes answers.2.0 answers.2.1 answers.2.2)
+    by_status (status.BadShape path) answers read_cause write_cause c bytes is told few takes no_read no_write = unless_fault (status.BadShape path) no_write write_cause (from_read (status.BadShape path) c answers.0 bytes is answers.1 told few takes answers.2.0 answers.2.1 answers.2.2)
+    by_status (status.BadMachine bad) answers read_cause write_cause c bytes is told few takes no_read no_write = unless_fault (status.BadMachine bad) no_write write_cause (from_read (status.BadMachine bad) c answers.0 bytes is answers.1 told few takes answers.2.0 answers.2.1 answers.2.2)
+    by_status (status.TooLong weight) answers read_cause write_cause c bytes is told few takes no_read no_write = unless_fault (status.TooLong weight) no_write write_cause (from_read (status.TooLong weight) c answers.0 bytes is answers.1 told few takes answers.2.0 answers.2.1 answers.2.2)
+    by_status (status.Illegal line broken) answers read_cause write_cause c bytes is told few takes no_read no_write = unless_fault (status.Illegal line broken) no_write write_cause (from_read (status.Illegal line broken) c answers.0 bytes is answers.1 told few takes answers.2.0 answers.2.1 answers.2.2)
+    by_status (status.Unfinished a) answers read_cause write_cause c bytes is told few takes no_read no_write = unless_fault (status.Unfinished a) no_write write_cause (from_read (status.Unfinished a) c answers.0 bytes is answers.1 told few takes answers.2.0 answers.2.1 answers.2.2)
+    by_status (status.BadLog n) answers read_cause write_cause c bytes is told few takes no_read no_write = unless_fault (status.BadLog n) no_write write_cause (from_read (status.BadLog n) c answers.0 bytes is answers.1 told few takes answers.2.0 answers.2.1 answers.2.2)

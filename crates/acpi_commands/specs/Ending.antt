@@ -1,10 +1,12 @@
 -- What the program says of a status on standard error.
 use Rattle.std.specs.Prelude.{ℕ, List, [], ◌∷◌, ◌++◌, codes, decimal}
+use Rattle.history_text.specs.Text.{actor_text}
 use Rattle.machine_desc.specs.declared.fault.BadMachine.{BadMachine}
 use Rattle.machine_desc.specs.declared.fault.Part.{Part}
 use Rattle.machine_desc.specs.declared.fault.Part.TheVariants as part
 use Rattle.machine_desc.specs.declared.fault.Rule.{Rule}
 use Rattle.machine_desc.specs.declared.fault.Rule.TheVariants as rule
+use Rattle.run_checker.specs.Words.{illegal_text}
 use Rattle.acpi_commands.specs.declared.status.Status.{Status}
 use Rattle.acpi_commands.specs.declared.status.Status.TheVariants as status
 
@@ -57,12 +59,18 @@ name_of status.ReadFault = codes "ReadFault"
 name_of status.WriteFault = codes "WriteFault"
 name_of status.Memory = codes "Memory"
 name_of status.TooLarge = codes "TooLarge"
+name_of (status.Illegal line broken) = codes "Illegal"
+name_of (status.Unfinished a) = codes "Unfinished"
+name_of (status.BadLog n) = codes "BadLog"
 
 -- what it carries, after a space
 abbrev pub carried : Status → List ℕ
 carried (status.BadShape path) = 32 ∷ path
 carried (status.BadMachine bad) = 32 ∷ bad_machine_text bad
 carried (status.TooLong weight) = 32 ∷ decimal weight
+carried (status.Illegal line broken) = 32 ∷ illegal_text line broken
+carried (status.Unfinished a) = 32 ∷ actor_text a
+carried (status.BadLog n) = 32 ∷ decimal n
 carried _ = []
 
 -- a line with the name of a status and what it carries

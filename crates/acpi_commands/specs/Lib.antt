@@ -1,3 +1,4 @@
+pub mod Check
 pub mod Ending
 pub mod Headline
 pub mod Run

@@ -16,6 +16,7 @@ use Rattle.acpi_commands.specs.declared.command.Command.{Command}
 use Rattle.acpi_commands.specs.declared.command.Command.TheVariants as command
 use Rattle.acpi_commands.specs.declared.status.Status.{Status}
 use Rattle.acpi_commands.specs.declared.status.Status.TheVariants as status
+use Rattle.acpi_commands.specs.Check.{FromLog, IsCompleteLog}
 use Rattle.acpi_commands.specs.Headline.{Ran}
 use Rattle.acpi_commands.specs.Words.{IsCommand, limit_of}
 
@@ -27,10 +28,11 @@ ReadsWhole limit left left' bytes = (length bytes ≤ limit) × Consumes left le
 abbrev pub text : MachineData → List Entry → List ℕ
 text m history = log_text m (canonical m) history
 
--- the history that a command writes: of a replay the one that the schedule and then rounds lead to
+-- the history that a command writes, where it writes one: of a replay the one that the schedule and then rounds lead to
 abbrev pub IsMade : Command → MachineData → List Entry → Type 0
 IsMade command.Run m history = Unit {0}
 IsMade command.Replay m history = Played m history
+IsMade command.Check m history = ⊥
 
 -- what a command makes of the bytes that it has read, and does with the text of that
 abbrev pub Makes : Command → List ℕ → (List ℕ → Type 0) → Type 0
@@ -55,20 +57,26 @@ Refuses bytes _ = ⊥
 
 -- the bytes are such as the command takes
 abbrev pub IsTaken : Command → List ℕ → Type 0
+IsTaken command.Check bytes = (m : MachineData) × (history : List Entry) × IsCompleteLog bytes m history
 IsTaken c bytes = (m : MachineData) × Describes bytes (Ok m)
 
--- The cause of each status that rests on the bytes which were read, and what the sink then holds.
+-- The cause of each status that rests on the description which was read, and what the sink then holds.
 abbrev pub FromBytes : Command → List ℕ → (sink_kept : Type 0) → (held held' : Option (List ℕ)) → Status → Type 0
 FromBytes c bytes sink_kept held held' status.Ok = Makes c bytes (Appends held held')
 FromBytes c bytes sink_kept held held' status.WriteFault = Makes c bytes (AddsFront held held')
 FromBytes c bytes sink_kept held held' s = sink_kept × Refuses bytes s
+
+-- the same of what a command reads: a log, or a description
+abbrev pub Does : Command → List ℕ → (sink_kept : Type 0) → (held held' : Option (List ℕ)) → Status → Type 0
+Does command.Check bytes sink_kept held held' s = FromLog bytes sink_kept held held' s
+Does c bytes sink_kept held held' s = FromBytes c bytes sink_kept held held' s
 
 -- the same of a command, and of what it left of the source's bytes
 abbrev pub ByCommand : Command → (sink_kept : Type 0) → (left left' held held' : Option (List ℕ)) → Status → Type 0
 ByCommand c sink_kept left left' held held' status.ReadFault = sink_kept × TakesUpTo (limit_of c) left left'
 ByCommand c sink_kept left left' held held' status.TooLarge = sink_kept × TakesExactly (limit_of c + 1) left left'
 ByCommand c sink_kept left left' held held' status.Memory = sink_kept × TakesUpTo (limit_of c) left left'
-ByCommand c sink_kept left left' held held' s = (bytes : List ℕ) × ReadsWhole (limit_of c) left left' bytes × FromBytes c bytes sink_kept held held' s
+ByCommand c sink_kept left left' held held' s = (bytes : List ℕ) × ReadsWhole (limit_of c) left left' bytes × Does c bytes sink_kept held held' s
 
 -- The cause of each status, and what it left of the source's bytes and in the sink.
 abbrev pub Answers : List (String Global) → (source_kept sink_kept : Type 0) → (left left' held held' : Option (List ℕ)) → Status → Type 0
@@ -91,3 +99,6 @@ code_of status.ReadFault = 5
 code_of status.WriteFault = 6
 code_of status.Memory = 7
 code_of status.TooLarge = 9
+code_of (status.Illegal line broken) = 8
+code_of (status.Unfinished a) = 8
+code_of (status.BadLog n) = 10

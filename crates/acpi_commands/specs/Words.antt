@@ -8,6 +8,7 @@ use Rattle.acpi_commands.specs.declared.command.Command.TheVariants as command
 abbrev pub word_of : Command → List ℕ
 word_of command.Run = codes "run"
 word_of command.Replay = codes "replay"
+word_of command.Check = codes "check"
 
 -- a word is that of this command, or of none
 abbrev pub IsWord : List ℕ → Option Command → Type 0
@@ -27,3 +28,4 @@ Commands words None = (c : Command) → IsCommand words c → ⊥
 abbrev pub limit_of : Command → ℕ
 limit_of command.Run = 4194304
 limit_of command.Replay = 4194304
+limit_of command.Check = 67108864

@@ -9,6 +9,8 @@ pub enum Command {
     Run,
     /// Run the machine by its schedule, a step a name, and then in rounds.
     Replay,
+    /// Judge a log.
+    Check,
 }
 
 impl Command {
@@ -18,6 +20,7 @@ impl Command {
     {
         match self {
             Command::Run | Command::Replay => 4_194_304,
+            Command::Check => 67_108_864,
         }
     }
 }
@@ -39,6 +42,8 @@ fn command_named(word: &str) -> Option<Command>
         Some(Command::Run)
     } else if word == "replay" {
         Some(Command::Replay)
+    } else if word == "check" {
+        Some(Command::Check)
     } else {
         None
     }

@@ -1,19 +1,24 @@
-ghost use Rattle.std.specs.Prelude.{◌≡◌, ◌≤◌, ◌++◌, ◌∷◌, OnErr, OnOk, decimal};
+ghost use Rattle.std.specs.Prelude.{◌≡◌, ◌≤◌, ◌++◌, ◌∷◌, OnErr, OnOk, decimal, length};
 ghost use Rattle.std.specs.Process.{exit_status};
 ghost use Rattle.std.specs.Io.KnownBytes.{Appends};
 ghost use Rattle.acpi_io.specs.Faults.{RoseByOne};
 ghost use Rattle.acpi_io.specs.Sink.{AddsFront, WritesAll};
 ghost use Rattle.acpi_commands.specs.Ending.{bad_machine_text, carried, error_line, status_line};
 ghost use Rattle.acpi_commands.specs.Run.{code_of};
+ghost use Rattle.history_text.specs.Text.{actor_text};
 ghost use Rattle.history_text.specs.Written.{GoesOn};
+ghost use Rattle.run_checker.specs.Words.{illegal_text};
 
 use crate::names::{name_of, part_name, rule_name};
 use crate::status::Status;
 use acpi_io::{Sink, WriteFault};
+use acpi_regs::Actor;
 use history_text::{Line, Pieces};
 use itoa::Buffer;
 use machine_desc::BadMachine;
+use machine_history::LogRule;
 use machine_reader::PathText;
+use run_checker::rule_name as log_rule_name;
 use std::fmt;
 use std::process::ExitCode;
 
@@ -72,6 +77,11 @@ fn put_carried<K: Sink>(
         Status::BadShape(path) => put_path(pieces, errors, path),
         Status::BadMachine(bad) => pieces.put(errors, line_of_bad_machine(bad).as_slice()),
         Status::TooLong(weight) => pieces.put(errors, line_of_weight(*weight).as_slice()),
+        Status::Illegal { line, rule } => {
+            pieces.put(errors, line_of_illegal(*line, *rule).as_slice())
+        }
+        Status::Unfinished { actor } => pieces.put(errors, line_of_actor(*actor).as_slice()),
+        Status::BadLog(line) => pieces.put(errors, line_of_number(*line).as_slice()),
         _ => Ok(()),
     }
 }
@@ -95,6 +105,9 @@ impl fmt::Display for Status {
             Status::BadShape(path) => write_path(f, path),
             Status::BadMachine(bad) => write_bad_machine(f, bad),
             Status::TooLong(weight) => write!(f, " {weight}"),
+            Status::Illegal { line, rule } => write!(f, " {line} {}", log_rule_name(*rule)),
+            Status::Unfinished { actor } => write_line(f, &line_of_actor(*actor)),
+            Status::BadLog(line) => write!(f, " {line}"),
             _ => Ok(()),
         }
     }
@@ -103,6 +116,13 @@ impl fmt::Display for Status {
 fn write_path<W: fmt::Write>(f: &mut fmt::Formatter<W>, path: &PathText) -> fmt::Result {
     f.write_char(' ')?;
     for byte in path.as_bytes() {
+        f.write_char(char::from(*byte))?;
+    }
+    Ok(())
+}
+
+fn write_line<W: fmt::Write>(f: &mut fmt::Formatter<W>, line: &Line) -> fmt::Result {
+    for byte in line.as_slice() {
         f.write_char(char::from(*byte))?;
     }
     Ok(())
@@ -127,6 +147,37 @@ fn line_of_bad_machine(bad: &BadMachine) -> Line
     line.push_number(bad.place.index);
     line.push(b' ');
     line.push_number(bad.place.op);
+    line
+}
+
+/// A space, and the line and the rule of a log that is not legal.
+fn line_of_illegal(number: u32, rule: LogRule) -> Line
+    ensures { result ≡ 32 ∷ illegal_text number rule }
+{
+    let mut line = line_of_number(number);
+    line.push(b' ');
+    line.push_text(log_rule_name(rule).as_bytes());
+    line
+}
+
+/// A space, and the name of an actor.
+fn line_of_actor(actor: Actor) -> Line
+    ensures { result ≡ 32 ∷ actor_text actor }
+{
+    let mut line = Line::new();
+    line.push(b' ');
+    line.push_actor(actor);
+    line
+}
+
+/// A space, and a number in decimal.
+fn line_of_number(number: u32) -> Line
+    ensures text { result ≡ 32 ∷ decimal number }
+    ensures len { length result ≤ 11 }
+{
+    let mut line = Line::new();
+    line.push(b' ');
+    line.push_number(number);
     line
 }
 

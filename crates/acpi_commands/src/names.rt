@@ -20,6 +20,9 @@ pub fn name_of(status: &Status) -> &'static str
         Status::WriteFault => "WriteFault",
         Status::Memory => "Memory",
         Status::TooLarge => "TooLarge",
+        Status::Illegal { .. } => "Illegal",
+        Status::Unfinished { .. } => "Unfinished",
+        Status::BadLog(_) => "BadLog",
     }
 }
 

@@ -1,13 +1,15 @@
 ghost use Rattle.std.specs.Prelude.{◌≡◌};
 ghost use Rattle.acpi_commands.specs.Run.{code_of, status_of};
 
+use acpi_regs::Actor;
 use machine_desc::BadMachine;
+use machine_history::LogRule;
 use machine_reader::{PathText, ReaderFault};
 
 /// What a call of the program came to.
 #[derive(Debug, Drop, PartialEq)]
 pub enum Status {
-    /// All was read, and the whole log was written.
+    /// All was read, and all was written.
     Ok,
     /// The words are no command.
     Usage,
@@ -25,8 +27,15 @@ pub enum Status {
     WriteFault,
     /// Memory ran out.
     Memory,
-    /// The source gives more bytes than a description may have.
+    /// The source gives more bytes than a description, or a log that is judged, may have.
     TooLarge,
+    /// The log that is judged is not legal: this line, counted from 1, is the first that breaks a rule, and this is the rule.
+    Illegal { line: u32, rule: LogRule },
+    /// The log that is judged is legal and not complete: this actor, the first of them, has something left to do.
+    Unfinished { actor: Actor },
+    /// The bytes that are to be judged are no log's text: this line, counted from 1, is the first of no form that may stand
+    /// there.
+    BadLog(u32),
 }
 
 impl Status {
@@ -43,6 +52,8 @@ impl Status {
             Status::WriteFault => 6,
             Status::Memory => 7,
             Status::TooLarge => 9,
+            Status::Illegal { .. } | Status::Unfinished { .. } => 8,
+            Status::BadLog(_) => 10,
         }
     }
 }

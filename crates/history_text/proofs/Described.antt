@@ -33,7 +33,7 @@ described_once bytes m n one other =
     let same = same_value bytes one.0 other.0 one.1 other.1 in
     ok-injective (machine_in one.0) m n one.2 (ap machine_in same ∙ other.2)
 
-not_refused : (bytes : List ℕ) (m : MachineData) (f : ReaderFault) → Describes bytes (Ok m) → ((d : Data) × IsJson bytes d × (machine_in d ≡ Err f)) → ⊥
+pub not_refused : (bytes : List ℕ) (m : MachineData) (f : ReaderFault) → Describes bytes (Ok m) → ((d : Data) × IsJson bytes d × (machine_in d ≡ Err f)) → ⊥
 not_refused bytes m f describes refused =
     let same = same_value bytes refused.0 describes.0 refused.1 describes.1 in
     let other : Err f ≡ Ok m = sym refused.2 ∙ (ap machine_in same ∙ describes.2) in

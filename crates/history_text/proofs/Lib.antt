@@ -1,5 +1,5 @@
 mod Above
-mod BadLines
+pub mod BadLines
 pub mod Described
 mod FirstLine
 mod Guesses

@@ -23,8 +23,7 @@ pub struct Case<'a> {
 
 /// How many bytes the first line has, with its newline where it has one.
 pub fn line_len(bytes: &[u8]) -> usize
-    requires { 0 < length bytes.now }
-    ensures some { 0 < result }
+    ensures some { 0 < length bytes.now → 0 < result }
     ensures within { result ≤ length bytes.now }
 {
     match memchr(b'\n', bytes) {

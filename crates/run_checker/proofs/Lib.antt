@@ -1,4 +1,7 @@
+mod Completing
 mod Given
 mod Lists
+pub mod OneVerdict
+mod Runs
 mod Steps
 mod Told

@@ -2,3 +2,4 @@ pub mod Words
 pub mod Reasons
 pub mod Verdict
 pub mod Ends
+pub mod Laws

@@ -8,10 +8,11 @@ use Rattle.history_text.specs.Text.{stuck}
 use Rattle.machine_desc.specs.Machine.{MachineData}
 use Rattle.machine_history.specs.declared.rule.LogRule.{LogRule}
 use Rattle.machine_history.specs.declared.rule.LogRule.TheVariants as rule
+use Rattle.machine_history.specs.Complete.{Complete}
 use Rattle.machine_history.specs.Legal.{Legal, refusal}
 use Rattle.run_checker.specs.declared.verdict.Verdict.{Verdict}
 use Rattle.run_checker.specs.declared.verdict.Verdict.TheVariants as verdict
-use Rattle.run_checker.specs.Reasons.{IsFirstUnfinished, NoneUnfinished}
+use Rattle.run_checker.specs.Reasons.{IsFirstUnfinished}
 
 -- ---- entries
 
@@ -45,6 +46,6 @@ IsWrongLine m entries told last line =
 -- ---- the verdict
 
 abbrev pub Judges : MachineData → List Entry → List Event → ℕ → Verdict → Type 0
-Judges m entries told last verdict.Complete = Legal m entries × IsRightEnd m entries told last × NoneUnfinished m (reverse entries)
+Judges m entries told last verdict.Complete = Complete m entries × IsRightEnd m entries told last
 Judges m entries told last (verdict.Illegal line broken) = BrokenAt m entries line broken ⊎ (Legal m entries × IsWrongLine m entries told last line × (broken ≡ rule.Rest))
 Judges m entries told last (verdict.Unfinished a) = Legal m entries × IsRightEnd m entries told last × IsFirstUnfinished m (reverse entries) a

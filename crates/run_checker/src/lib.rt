@@ -9,6 +9,7 @@
 mod ending;
 mod ends;
 mod judge;
+pub mod laws;
 mod reasons;
 mod replay;
 mod verdict;

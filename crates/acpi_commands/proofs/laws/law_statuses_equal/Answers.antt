@@ -6,4 +6,4 @@ pub returns : goal.returns
 returns c =
     let one = c.args.one.now in
     let other = c.args.other.now in
-    subst (λ b. IsTrue b ↔ (one ≡ other)) (sym c.eq.ensures) (statuses c.law_equality.ensures.bad_machine one other)
+    subst (λ b. IsTrue b ↔ (one ≡ other)) (sym c.eq.ensures) (statuses c.law_equality.ensures.bad_machine c.law_equality-2.ensures.actor one other)
