@@ -30,6 +30,7 @@ use world::SerialWorld;
 
 /// Runs the machine that the bytes describe, and writes its log to the sink.
 pub fn run<K: Sink>(alloc: Global, command: Command, bytes: &[u8], sink: &mut K) -> Status
+    requires { ¬ command ≡ Command.Check }
     ensures ends { FromBytes command bytes.now (sink.new ≡ sink.old)
         (K.held sink.old) (K.held sink.new) result }
     ensures later { K.faults sink.old ≤ K.faults sink.new }
@@ -106,6 +107,7 @@ fn carry_out<K: Sink>(
     prepared: Prepared,
     sink: &mut K,
 ) -> Result<(), WriteFault>
+    requires { ¬ command ≡ Command.Check }
     ensures ends { (history : List Entry) × Complete prepared.machine history × IsMade command prepared.machine history
         × WritesAll (K.held sink.old) (K.held sink.new) (text prepared.machine history) result }
     ensures later { K.faults sink.old ≤ K.faults sink.new }
@@ -132,6 +134,7 @@ fn play(
     requires machine { world.old.board.machine ≡ machine.now }
     requires actors { map who actors.old.items ≡ actors_of machine.now }
     requires first { core_in world.old actors.old.items ≡ first_core }
+    requires runs { ¬ command ≡ Command.Check }
     ensures machine { world.new.board.machine ≡ machine.now }
     ensures complete { Complete machine.now world.new.board.entries }
     ensures made { IsMade command machine.now world.new.board.entries }
@@ -142,5 +145,6 @@ fn play(
     match command {
         Command::Run => drain(world, machine, actors),
         Command::Replay => run_schedule(world, machine, actors),
+        Command::Check => unreachable!(),
     }
 }
