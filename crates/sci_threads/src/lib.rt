@@ -9,8 +9,9 @@
 
 mod actors;
 mod any;
+pub mod laws;
 mod rounds;
 
 pub use actors::all_actors;
 pub use any::AnyActor;
-pub use rounds::{drain, run_schedule};
+pub use rounds::{drain, run_schedule, step_of};

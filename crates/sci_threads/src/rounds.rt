@@ -107,6 +107,26 @@ fn controllers(machine: &Machine) -> usize
     }
 }
 
+/// One step of an actor of the machine. The conditions are those of [`drain`].
+pub fn step_of(
+    world: &mut SerialWorld,
+    machine: &Machine,
+    actors: &mut Vec<AnyActor>,
+    name: Actor,
+) -> StepOutcome
+    requires machine { world.old.board.machine ≡ machine.now }
+    requires actors { map who actors.old.items ≡ actors_of machine.now }
+    requires sound { IsSound machine.now (core_in world.old actors.old.items) }
+    requires known { has_actor (counts_in machine.now) name ≡ true }
+    ensures machine { world.new.board.machine ≡ machine.now }
+    ensures actors { map who actors.new.items ≡ actors_of machine.now }
+    ensures sound { IsSound machine.now (core_in world.new actors.new.items) }
+    ensures step { StepDone machine.now name (core_in world.old actors.old.items) result (core_in world.new actors.new.items) }
+{
+    let k = place_of(machine, name);
+    step_at(world, machine, actors, k)
+}
+
 /// Makes one step for each name of the machine's schedule, in order, and then rounds until one in which nobody did anything.
 ///
 /// The conditions are those of [`drain`].
@@ -138,7 +158,6 @@ fn make_steps(world: &mut SerialWorld, machine: &Machine, actors: &mut Vec<AnyAc
 {
     machine.law_rules();
     for name in machine.schedule() {
-        let k = place_of(machine, *name);
-        step_at(world, machine, actors, k);
+        step_of(world, machine, actors, *name);
     }
 }

@@ -9,7 +9,7 @@ use acpi_regs::Event;
 use lock_table::Bits;
 
 /// No pin.
-fn none() -> Bits
+pub fn none() -> Bits
     ensures { pinned result ≡ no_event }
 {
     Bits::new()

@@ -1,6 +1,8 @@
 ghost use Rattle.std.specs.Prelude.{◌≡◌, ◌≤◌};
+ghost use Rattle.acpi_regs.specs.Core.{no_event};
+ghost use Rattle.world.specs.Serial.{pins_of};
 
-use crate::pins::{set, sweep};
+use crate::pins::{none, set, sweep};
 use crate::{Duty, TurnOutcome, World};
 use acpi_regs::{Actor, Event};
 use facs_word::{acquire_of, owned, pending, release_of};
@@ -33,6 +35,26 @@ impl SerialWorld {
         ensures { result ≡ record { board = board; words = words } }
     {
         SerialWorld { board, words }
+    }
+
+    /// A world of this board at its start: the Global Lock is free, and no pin is set.
+    pub fn fresh(board: Board) -> SerialWorld
+        ensures board { result.board ≡ board }
+        ensures word { result.words.facs ≡ 0 }
+        ensures pins { pins_of result ≡ no_event }
+    {
+        let words = Words {
+            facs: 0,
+            pins: none(),
+        };
+        SerialWorld { board, words }
+    }
+
+    /// The words.
+    pub fn words(&self) -> Words
+        ensures { result ≡ self.now.words }
+    {
+        self.words
     }
 
     /// The board and the words.

@@ -16,9 +16,9 @@ loop-name-preserved c =
     let at : slice_get m.schedule i ≡ Some name = ap (λ l. slice_get l i) (sym inv.names) ∙ slice_get-get_or items i actor.Int c.loop-name-test.true in
     let c0 = core_in c.args.world.now c.args.actors.now.items in
     record {
-      machine = c.step_at.ensures.machine;
-      actors = c.step_at.ensures.actors;
-      sound = c.step_at.ensures.sound;
+      machine = c.step_of.ensures.machine;
+      actors = c.step_of.ensures.actors;
+      sound = c.step_of.ensures.sound;
       names = inv.names;
-      steps = (c.step_at.ensures.step name c.place_of-k.ensures).leads ∙ (ap (λ x. stepped m x name) inv.steps ∙ (sym (steps-next m (take i m.schedule) name c0) ∙ ap (λ l. steps m l c0) (sym (take-next m.schedule i name at))));
+      steps = c.step_of.ensures.step.leads ∙ (ap (λ x. stepped m x name) inv.steps ∙ (sym (steps-next m (take i m.schedule) name c0) ∙ ap (λ l. steps m l c0) (sym (take-next m.schedule i name at))));
     }
