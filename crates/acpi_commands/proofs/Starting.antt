@@ -29,5 +29,5 @@ sound_at_start m c first sound nobody = subst (IsSound m) (sym first) (record { 
 pub fresh : (m copy : MachineData) (w : Serial) (board : BoardData) (pins : Bits) (actors : List AnyActor) → w ≡ record { board = board; words = record { facs = 0; pins = pins } } → board ≡ record { machine = copy; entries = [] } → copy ≡ m → ((n : Event) → IsEvent n → is_set pins n ≡ false) → phases_of actors ≡ first_phase → (w.board.machine ≡ m) × (core_in w actors ≡ first_core)
 fresh m copy w board pins actors world made copied clear phases = (
   ap (λ x. x.board.machine) world ∙ (ap (λ b. b.machine) made ∙ copied),
-  starts w actors (ap (λ x. x.words.facs) world) (subst (λ x. (n : Event) → IsEvent n → is_set x.words.pins n ≡ false) (sym world) clear) (ap (λ x. x.board.entries) world ∙ ap (λ b. b.entries) made) phases
+  starts w actors (ap (λ x. x.words.facs) world) (subst (λ x. (n : Event) → IsEvent n → is_set x.words.pins n ≡ false) (sym world) clear) (ap (λ x. x.board.entries) world ∙ ap (λ b. b.entries) made) phases,
 )

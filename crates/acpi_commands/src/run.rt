@@ -102,11 +102,7 @@ fn prepared(alloc: Global, machine: Machine) -> Option<Prepared>
 }
 
 /// Runs a prepared machine to its end and writes its log. It takes no memory.
-fn carry_out<K: Sink>(
-    command: Command,
-    prepared: Prepared,
-    sink: &mut K,
-) -> Result<(), WriteFault>
+fn carry_out<K: Sink>(command: Command, prepared: Prepared, sink: &mut K) -> Result<(), WriteFault>
     requires { ¬ command ≡ Command.Check }
     ensures ends { (history : List Entry) × Complete prepared.machine history × IsMade command prepared.machine history
         × WritesAll (K.held sink.old) (K.held sink.new) (text prepared.machine history) result }
@@ -125,12 +121,7 @@ fn carry_out<K: Sink>(
 }
 
 /// Runs the actors of a machine from their start to the end.
-fn play(
-    command: Command,
-    machine: &Machine,
-    world: &mut SerialWorld,
-    actors: &mut Vec<AnyActor>,
-)
+fn play(command: Command, machine: &Machine, world: &mut SerialWorld, actors: &mut Vec<AnyActor>)
     requires machine { world.old.board.machine ≡ machine.now }
     requires actors { map who actors.old.items ≡ actors_of machine.now }
     requires first { core_in world.old actors.old.items ≡ first_core }

@@ -63,9 +63,14 @@ fn words(alloc: Global, texts: &[&str]) -> Result<Vec<String>, AllocError> {
 
 /// Runs the program with the word `run`.
 fn run(alloc: Global, description: &[u8], faults: Faults) -> Result<Outcome, Fail> {
+    call(alloc, "run", description, faults)
+}
+
+/// Runs the program with one word.
+fn call(alloc: Global, word: &str, input: &[u8], faults: Faults) -> Result<Outcome, Fail> {
     let most = faults.most.max(1);
-    let words = words(alloc, &["run"])?;
-    let bytes = description.to_vec(alloc)?;
+    let words = words(alloc, &[word])?;
+    let bytes = input.to_vec(alloc)?;
     let mut source = MemorySource::new(bytes, numbers(alloc, faults.read)?, most);
     let mut sink = MemorySink::new(alloc, numbers(alloc, faults.write)?, most, 1 << 20)?;
     let status = acpi_events(alloc, &words, &mut source, &mut sink);
@@ -74,6 +79,39 @@ fn run(alloc: Global, description: &[u8], faults: Faults) -> Result<Outcome, Fai
         held: sink.held().to_vec(alloc)?,
         writes: sink.writes(),
     })
+}
+
+/// A notebook: a battery and a lid on level events, a power button that a device presses, a controller with two query codes, two
+/// workers, and a firmware that counts to nine under the Global Lock.
+const NOTEBOOK: &str =
+    "{\"controller\":{\"event\":\"g6E\",\"fickle\":false,\"queries\":[{\"name\":\"_Q2A\",\"script\":[[\"read\",2],[\"notify\",4,128]]},{\"name\":\"_Q2B\",\"script\":[[\"notify\",5,129]]}],\"silent\":false},\"devices\":[[\"pwr\"]],\"events\":[{\"name\":\"_L02\",\"refs\":1,\"script\":[[\"read\",3],[\"drop\",\"g02\"],[\"notify\",1,128]]},{\"name\":\"_L1C\",\"refs\":1,\"script\":[[\"drop\",\"g1C\"],[\"notify\",2,128]]},{\"name\":\"pwr\",\"refs\":1,\"script\":[[\"notify\",3,128]]}],\"fields\":[{\"bit\":0,\"lock\":true,\"region\":0,\"update\":\"preserve\",\"width\":8},{\"bit\":8,\"lock\":false,\"region\":0,\"update\":\"preserve\",\"width\":8},{\"bit\":256,\"lock\":false,\"region\":1,\"update\":\"preserve\",\"width\":16},{\"bit\":0,\"lock\":false,\"region\":1,\"update\":\"preserve\",\"width\":8}],\"firmware\":[[[\"assert\",\"g02\"],[\"push\",42],[\"assert\",\"g1C\"],[\"push\",43],[\"hold\"],[\"add\",0,1],[\"write\",1,7],[\"free\"],[\"hold\"],[\"add\",0,1],[\"write\",1,7],[\"free\"],[\"hold\"],[\"add\",0,1],[\"write\",1,7],[\"free\"],[\"hold\"],[\"add\",0,1],[\"write\",1,7],[\"free\"],[\"hold\"],[\"add\",0,1],[\"write\",1,7],[\"free\"],[\"hold\"],[\"add\",0,1],[\"write\",1,7],[\"free\"],[\"hold\"],[\"add\",0,1],[\"write\",1,7],[\"free\"],[\"hold\"],[\"add\",0,1],[\"write\",1,7],[\"free\"],[\"hold\"],[\"add\",0,1],[\"write\",1,7],[\"free\"]]],\"gpe\":{\"base1\":0,\"gpe0\":32,\"gpe1\":0},\"regions\":[{\"bytes\":[],\"kind\":\"memory\",\"len\":2},{\"bytes\":[],\"kind\":\"controller\",\"len\":256}],\"schedule\":[],\"version\":1,\"workers\":2}";
+
+/// How often a part stands in a text.
+fn times(text: &str, part: &str) -> usize {
+    text.split(part).count().saturating_sub(1)
+}
+
+#[test]
+fn a_notebook_runs_and_its_log_is_complete(rt: HostRuntime) -> Result<(), Fail> {
+    let alloc = rt.alloc();
+    for word in ["run", "replay"] {
+        let outcome = call(alloc, word, NOTEBOOK.as_bytes(), NO_FAULTS)?;
+        assert_eq!(rt; outcome.status, Status::Ok);
+        let log = str::from_utf8(&outcome.held).unwrap_or("");
+        for notify in ["01 80", "02 80", "03 80", "04 80", "05 81"] {
+            let line = format!(in alloc; " notify {notify}\n")?;
+            assert_eq!(rt; times(log, line.as_str()), 1);
+        }
+        assert_eq!(rt; times(log, " write 00:0000 09\n"), 1);
+        assert_eq!(rt; times(log, "\nstuck "), 0);
+        let verdict = call(alloc, "check", log.as_bytes(), NO_FAULTS)?;
+        assert_eq!(rt; verdict.status, Status::Ok);
+        // The machine's line and the last one are no entries.
+        let entries = times(log, "\n").saturating_sub(2);
+        let told = format!(in alloc; "complete {entries}\n")?;
+        assert!(rt; verdict.held.as_slice() == told.as_bytes());
+    }
+    Ok(())
 }
 
 #[test]

@@ -71,5 +71,8 @@ fn lines(alloc: Global, log: &str, picked: &str) -> Result<String, AllocError> {
 }
 
 fn is_picked(line: &str, picked: &str) -> bool {
-    picked.is_empty() || picked.split(" ").any(|word| line.split(" ").any(|other| other == word))
+    picked.is_empty()
+        || picked
+            .split(" ")
+            .any(|word| line.split(" ").any(|other| other == word))
 }
