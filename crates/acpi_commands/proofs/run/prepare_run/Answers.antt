@@ -1,4 +1,4 @@
-use Rattle.acpi_commands.proofs.RunLemmas.{small_weight}
+use Rattle.history_text.proofs.Described.{small_weight}
 use Rattle.acpi_commands.proofs.run.prepare_run.Goals as goal
 
 pub prepared-requires : goal.prepared-requires
