@@ -1,5 +1,5 @@
 pub mod AnyStep
-pub mod Lessening
+pub mod Known
 pub mod Once
 pub mod Placing
 pub mod RowSteps

@@ -1,18 +1,21 @@
 -- Steps one after another, and rounds.
-use Rattle.std.proofs.Common.{◌≡◌, ℕ, zero, suc, ◌+◌, ◌≤◌, Bool, true, false, List, [], ◌∷◌, ◌++◌, append-nil, append_assoc, length, map, reverse, slice_get, take, Option, Some, None, unwrap_or, refl, sym, ap, ◌∙◌, subst, arith}
+use Rattle.std.proofs.Common.{◌≡◌, ℕ, zero, suc, ◌+◌, ◌<◌, ◌≤◌, Bool, true, false, List, [], ◌∷◌, ◌++◌, append-nil, append_assoc, length, map, reverse, slice_get, take, Option, Some, None, unwrap_or, refl, sym, ap, ◌∙◌, subst, arith}
 use Rattle.std.specs.Option.{option_map}
 use Rattle.acpi_regs.specs.declared.actor.Actor.{Actor}
 use Rattle.acpi_regs.specs.declared.entry.Entry.{Entry}
 use Rattle.acpi_regs.specs.Core.{Core, events_of, first_core}
+use Rattle.core_laws.specs.Gives.{NobodyHolds}
+use Rattle.core_laws.specs.Rounds.{to_come}
 use Rattle.core_laws.specs.Sound.{Sound}
 use Rattle.machine_desc.specs.Actors.{actors_of}
-use Rattle.machine_desc.specs.Kept.{IsMachine}
+use Rattle.machine_desc.specs.Kept.{IsMachine, counts_in}
+use Rattle.machine_desc.specs.Rules.{has_actor}
 use Rattle.machine_desc.specs.Machine.{MachineData}
-use Rattle.machine_history.proofs.Whole.{weight_bounds}
 use Rattle.machine_history.specs.Played.{IsQuiet, Played, Settles, rounds, stepped, steps}
 use Rattle.machine_history.specs.Steps.{Adds, Attempts, Pulses, Releases, Step, Sweeps, entry, gives, happens, latch, next_step}
-use Rattle.sci_threads.specs.Rounds.{Begins, RowDone, StepDone, left}
-use Rattle.sci_threads.proofs.Lessening.{gives_less}
+use Rattle.sci_threads.specs.Actors.{IsSound}
+use Rattle.sci_threads.specs.Rounds.{Begins, RowDone, StepDone}
+use Rattle.sci_threads.proofs.Known.{known}
 use Rattle.world.specs.declared.outcome.StepOutcome.{StepOutcome}
 use Rattle.world.specs.declared.outcome.StepOutcome.TheVariants as outcome
 use Rattle.world.specs.Stepping.{after_step, is_stepped}
@@ -47,11 +50,15 @@ some-by m a c d outcome.Out is some = no (sym some)
 some-by m a c d outcome.Moved is some = no (sym some)
 some-by m a c d outcome.Ended is some = no (sym some)
 
-pub step-done : (m : MachineData) (k : ℕ) (a : Actor) (c d : Core) (o : StepOutcome) → IsMachine m → Sound m d → slice_get (actors_of m) k ≡ Some a → gives m c a ≡ after_step o d → (is_stepped o ≡ false → d ≡ c) → StepDone m a c o d
-step-done m k a c d o ok sound at is idle = record {
+-- each step of an actor of the machine lessens what is to come
+abbrev pub Lessens : Type 0
+Lessens = (m : MachineData) (c d : Core) (a : Actor) → IsMachine m → Sound m c → NobodyHolds c → has_actor (counts_in m) a ≡ true → gives m c a ≡ Some d → to_come m d < to_come m c
+
+pub step-done : (m : MachineData) (k : ℕ) (a : Actor) (c d : Core) (o : StepOutcome) → Lessens → IsMachine m → IsSound m c → slice_get (actors_of m) k ≡ Some a → gives m c a ≡ after_step o d → (is_stepped o ≡ false → d ≡ c) → StepDone m a c o d
+step-done m k a c d o lessens ok sound at is idle = record {
   leads = leads-by m a c d o is idle;
   quiet = quiet-by m a c d o is;
-  less = λ some. gives_less m k a c d at (some-by m a c d o is some) (weight_bounds m d.history ok sound.legal);
+  less = λ some. lessens m c d a ok sound.sound sound.nobody (known m k a at) (some-by m a c d o is some);
 }
 
 -- ---- a row of steps
@@ -73,9 +80,9 @@ pub row-first : (m : MachineData) (names : List Actor) (c : Core) → RowDone m 
 row-first m names c = record { leads = refl; quiet = λ idle. (tt, refl); less = λ moved. no (sym moved) }
 
 -- a row so far leaves no more than before it
-no-more : (m : MachineData) (names : List Actor) (c d : Core) (moved : Bool) → RowDone m names c moved d → left m d ≤ left m c
+no-more : (m : MachineData) (names : List Actor) (c d : Core) (moved : Bool) → RowDone m names c moved d → to_come m d ≤ to_come m c
 no-more m names c d true row = let less = row.less refl in omega arith
-no-more m names c d false row = let same = ap (left m) (row.quiet refl).1 in omega arith
+no-more m names c d false row = let same = ap (to_come m) (row.quiet refl).1 in omega arith
 
 next-leads : (m : MachineData) (names : List Actor) (k : ℕ) (a : Actor) (c d e : Core) (moved : Bool) (o : StepOutcome) → slice_get names k ≡ Some a → RowDone m (take k names) c moved d → StepDone m a d o e → e ≡ steps m (take (k + 1) names) c
 next-leads m names k a c d e moved o at row step = step.leads ∙ (ap (λ x. stepped m x a) row.leads ∙ (sym (steps-next m (take k names) a c) ∙ ap (λ l. steps m l c) (sym (take-next names k a at))))
@@ -97,7 +104,7 @@ row-idle m names k a c d e moved o at row step idle = record {
     subst (λ l. IsQuiet m l c) (sym (take-next names k a at)) (quiet-next m (take k names) a c before.0 (ap (λ x. gives m x a) (sym before.1) ∙ step.quiet idle)),
     idle-step m a d e o step idle ∙ before.1,
   ));
-  less = λ is. (let before = row.less is in let same = ap (left m) (idle-step m a d e o step idle) in omega arith);
+  less = λ is. (let before = row.less is in let same = ap (to_come m) (idle-step m a d e o step idle) in omega arith);
 }
 
 pub row-done : (m : MachineData) (names : List Actor) (k : ℕ) (c d : Core) (moved : Bool) → k ≡ length names → RowDone m (take k names) c moved d → RowDone m names c moved d

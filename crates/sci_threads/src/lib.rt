@@ -3,8 +3,8 @@
 //! [`all_actors`] makes the actors of a machine, each at its start. [`drain`] makes rounds, one step of each actor in the
 //! order in which actors are served, until one in which nobody did anything; [`run_schedule`] makes the steps of the machine's
 //! schedule first. Each step is exactly what the definitions give its actor, so they lead to the core to which the rounds of
-//! the definitions settle (`specs/Played.antt` of `machine_history`). That they end follows from a count of what is left to
-//! do (`specs/Rounds.antt`).
+//! the definitions settle (`specs/Played.antt` of `machine_history`). That they end follows from the count of what is to
+//! come of `core_laws`, which each step lessens.
 #![tactic(auto)]
 
 mod actors;

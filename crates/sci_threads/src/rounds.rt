@@ -11,7 +11,7 @@ ghost use Rattle.sci_threads.specs.Rounds.{Begins, RowDone, StepDone};
 
 use crate::AnyActor;
 use acpi_regs::Actor;
-use core_laws::laws::{law_gives, law_latches, law_no_deadlock};
+use core_laws::laws::{law_gives, law_latches, law_no_deadlock, law_rounds};
 use machine_desc::Machine;
 use world::{SerialWorld, StepOutcome};
 
@@ -35,6 +35,7 @@ fn step_at(
     machine.law_rules();
     law_gives();
     law_latches();
+    law_rounds();
     actors[k].step(machine, world)
 }
 

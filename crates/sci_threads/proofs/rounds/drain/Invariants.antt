@@ -1,7 +1,7 @@
 use Rattle.std.proofs.Common.{◌≡◌, map}
 use Rattle.machine_desc.specs.Actors.{actors_of}
 use Rattle.sci_threads.specs.Actors.{IsSound, core_in, who}
-use Rattle.sci_threads.specs.Rounds.{left}
+use Rattle.core_laws.specs.Rounds.{to_come}
 use Rattle.sci_threads.proofs.Rows.{Rounded}
 use Rattle.sci_threads.proofs.rounds.drain.Given as goal
 
@@ -14,4 +14,4 @@ invariant-loop l = record {
 }
 
 abbrev pub decreases-loop : goal.decreases-loop
-decreases-loop l = left l.machine (core_in l.world l.actors.items)
+decreases-loop l = to_come l.machine (core_in l.world l.actors.items)

@@ -12,18 +12,18 @@ returns-clause-actors c =
     let items = c.args.actors.now.items in
     let x = c.index_mut.result.now in
     let at : slice_get items c.args.k ≡ Some x = slice_get-get_or items c.args.k x c.requires.within ∙ ap Some (sym c.index_mut.ensures.value) in
-    (row-step c.args.machine.now c.args.world.now c.step.new.world items c.args.k x c.step.new.self c.step.result c.law_gives.ensures.stepped c.law_rules.ensures c.requires.actors c.requires.sound at c.step.ensures.who c.step.ensures.gives c.step.ensures.stays).names
+    (row-step c.args.machine.now c.args.world.now c.step.new.world items c.args.k x c.step.new.self c.step.result c.law_gives.ensures.stepped c.law_rounds.ensures.step c.law_rules.ensures c.requires.actors c.requires.sound at c.step.ensures.who c.step.ensures.gives c.step.ensures.stays).names
 
 pub returns-clause-sound : goal.returns-clause-sound
 returns-clause-sound c =
     let items = c.args.actors.now.items in
     let x = c.index_mut.result.now in
     let at : slice_get items c.args.k ≡ Some x = slice_get-get_or items c.args.k x c.requires.within ∙ ap Some (sym c.index_mut.ensures.value) in
-    (row-step c.args.machine.now c.args.world.now c.step.new.world items c.args.k x c.step.new.self c.step.result c.law_gives.ensures.stepped c.law_rules.ensures c.requires.actors c.requires.sound at c.step.ensures.who c.step.ensures.gives c.step.ensures.stays).sound
+    (row-step c.args.machine.now c.args.world.now c.step.new.world items c.args.k x c.step.new.self c.step.result c.law_gives.ensures.stepped c.law_rounds.ensures.step c.law_rules.ensures c.requires.actors c.requires.sound at c.step.ensures.who c.step.ensures.gives c.step.ensures.stays).sound
 
 pub returns-clause-step : goal.returns-clause-step
 returns-clause-step c =
     let items = c.args.actors.now.items in
     let x = c.index_mut.result.now in
     let at : slice_get items c.args.k ≡ Some x = slice_get-get_or items c.args.k x c.requires.within ∙ ap Some (sym c.index_mut.ensures.value) in
-    (row-step c.args.machine.now c.args.world.now c.step.new.world items c.args.k x c.step.new.self c.step.result c.law_gives.ensures.stepped c.law_rules.ensures c.requires.actors c.requires.sound at c.step.ensures.who c.step.ensures.gives c.step.ensures.stays).step
+    (row-step c.args.machine.now c.args.world.now c.step.new.world items c.args.k x c.step.new.self c.step.result c.law_gives.ensures.stepped c.law_rounds.ensures.step c.law_rules.ensures c.requires.actors c.requires.sound at c.step.ensures.who c.step.ensures.gives c.step.ensures.stays).step
