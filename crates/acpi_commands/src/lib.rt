@@ -3,7 +3,8 @@
 //!
 //! All of it stands in [`acpi_events`], a call over any source and sink whose contract says what each status means
 //! (`specs/Run.antt`), by the words of the program (`specs/Words.antt`). What a log says of its machine is
-//! `specs/Headline.antt`, sentence by sentence; what is said of a log that is judged is `specs/Check.antt`. [`end`] then tells a refusal and gives the exit code (`specs/Ending.antt`).
+//! `specs/Headline.antt`, sentence by sentence; what is said of a log that is judged is `specs/Check.antt`. [`end`] then
+//! tells a refusal and gives the exit code (`specs/Ending.antt`).
 //! The program's `main`, which hands these the words and the standard streams, is a crate of its own. The crate stands on
 //! `machine_reader`, which reads descriptions and writes them, on `sci_threads`, which runs a machine's actors to their end,
 //! on `history_text`, which writes the log and reads one, on `run_checker`, which judges it, and on `acpi_io`.

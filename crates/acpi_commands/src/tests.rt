@@ -2,6 +2,8 @@
 //! with their answers and logs stand in the crates `description_verdicts` and `machine_runs`.
 use crate::{Status, acpi_events, end};
 use acpi_io::{MemorySink, MemorySource, ReadOutcome, Source};
+use acpi_regs::Actor;
+use machine_core::LogRule;
 use machine_desc::{BadMachine, Part, Place, Rule};
 use std::alloc::{AllocError, Global};
 use std::process::ExitCode;
@@ -368,6 +370,37 @@ fn a_log_of_4096_entries_reaches_the_sink_in_few_writes(rt: HostRuntime) -> Resu
 }
 
 #[test]
+fn a_log_that_is_not_complete_is_refused(rt: HostRuntime) -> Result<(), Fail> {
+    let alloc = rt.alloc();
+    let (machine, _) = TWO_LOG.split_once("\n").ok_or("no line")?;
+    for (lines, code, said) in [
+        ("f0 write 00:0000 5A\nf0 read 00:0000 5A\nrest 2\n", 0, "Ok"),
+        (
+            "f0 write 00:0000 5A\nf0 read 00:0000 5B\nrest 2\n",
+            8,
+            "Illegal 3 Value",
+        ),
+        (
+            "f0 write 00:0000 5A\nf0 read 00:0000 5A\nrest 3\n",
+            8,
+            "Illegal 4 Rest",
+        ),
+        ("f0 write 00:0000 5A\nrest 1\n", 8, "Unfinished f0"),
+        ("f0 write 00:0000 5a\n", 10, "BadLog 2"),
+        ("f0 write 00:0000 5A\n", 10, "BadLog 3"),
+    ] {
+        let log = format!(in alloc; "{machine}\n{lines}")?;
+        let verdict = call(alloc, "check", log.as_bytes(), NO_FAULTS)?;
+        assert_eq!(rt; verdict.status.code(), code, "{lines}");
+        let text = format!(in alloc; "{}", verdict.status)?;
+        assert!(rt; text.as_str() == said, "{lines}");
+        let written = if code == 0 { "complete 2\n" } else { "" };
+        assert!(rt; verdict.held.as_slice() == written.as_bytes());
+    }
+    Ok(())
+}
+
+#[test]
 fn each_status_has_its_code_and_name(rt: HostRuntime) -> Result<(), Fail> {
     let bad = BadMachine {
         rule: Rule::TooManyEvents,
@@ -391,6 +424,22 @@ fn each_status_has_its_code_and_name(rt: HostRuntime) -> Result<(), Fail> {
         (Status::WriteFault, 6, "WriteFault"),
         (Status::Memory, 7, "Memory"),
         (Status::TooLarge, 9, "TooLarge"),
+        (Status::BadLog(4_294_967_295), 10, "BadLog 4294967295"),
+        (
+            Status::Illegal {
+                line: 12,
+                rule: LogRule::Wake,
+            },
+            8,
+            "Illegal 12 Wake",
+        ),
+        (
+            Status::Unfinished {
+                actor: Actor::Firmware(7),
+            },
+            8,
+            "Unfinished f7",
+        ),
     ];
     let alloc = rt.alloc();
     for (status, code, name) in table {
