@@ -2,7 +2,7 @@
 //!
 //! Every other crate speaks of a machine in the words of this one: fixed events and the flags of the PM1 registers, GPEs
 //! and the blocks in which they stand, the names of methods, the status of the embedded controller, actors, and the
-//! entries of a history. It stands on `bitflags` alone. An entry is what one actor did in one step, and a history is a
+//! entries of a history. It stands on `bitflags` and `facs_word`. An entry is what one actor did in one step, and a history is a
 //! list of entries, the oldest first.
 //!
 //! The contracts cite the tables of ACPI in `specs/` (`Event`, `Geometry`, `Names`), and the crates above cite the
@@ -17,20 +17,24 @@ mod actor;
 mod entry;
 mod event;
 mod flags;
+mod gate;
 mod geometry;
 pub mod laws;
 mod memory;
 mod name;
 mod phase;
+mod recorded;
 
 pub use actor::{Actor, Side};
 pub use entry::{Cell, Deed, Effect, Entry, HostMove, Request};
 pub use event::{Event, Fixed, Listed};
 pub use flags::{EcStatus, Pm1Bits};
+pub use gate::{Gate, OpenGate};
 pub use geometry::{BadGeometry, GeometryField, GpeGeometry, GpePlace};
 pub use memory::Memory;
 pub use name::{MethodName, NotAName, byte_named, digit_byte};
 pub use phase::{LockPhase, Pulse};
+pub use recorded::{PulseLists, Recorded};
 
 #[cfg(test)]
 mod tests;
