@@ -1,7 +1,8 @@
 -- What a pulse and a collect make of the pin words, as sets of events.
-use Rattle.std.proofs.Common.{◌≡◌, ◌≢◌, ◌⊎◌, inl, inr, ℕ, ◌<◌, ◌==◌, ◌||◌, ◌&&◌, not, Bool, true, false, ◌*◌, ◌%◌, ◌^◌, List, length, get_or, slice_set, bit_or, refl, ap, sym, ◌∙◌, arith, get_or-set_other}
-use Rattle.std.proofs.lemmas.Bool.{cases_eq, ne_eqb, eq-eqb, false_from_ne_true}
+use Rattle.std.proofs.Common.{◌≡◌, ◌≢◌, ◌⊎◌, inl, inr, ℕ, ◌<◌, ◌==◌, ◌||◌, ◌&&◌, not, nat_lt, Bool, true, false, ◌*◌, ◌%◌, ◌^◌, List, [], ◌∷◌, ◌++◌, suc, zero, length, get_or, slice_set, bit_or, refl, ap, sym, ◌∙◌, arith, get_or-set_other}
+use Rattle.std.proofs.lemmas.Bool.{cases_eq, cases_order, ne_eqb, eq-eqb, lt-ltb, le-ltb, or_left, or_right, or_from, false_from_ne_true}
 use Rattle.std.proofs.lemmas.Grind.{get_or-set_at}
+use Rattle.std.proofs.lemmas.List.{get_or_push, length_push}
 use Rattle.std.proofs.lemmas.Nat.Bits.{bit_at-zero}
 use Rattle.std.specs.Int.{bit_at}
 use Rattle.acpi_regs.specs.declared.event.Event.{Event}
@@ -83,22 +84,43 @@ cleared words w within = λ i x. by_word x (cases_eq (word_of x) w) i
         ∙ sym (and_false (pins_of words x)) ∙ ap (λ b. pins_of words x && not b) (sym (eq-eqb (word_of x) w same))
     by_word x (inr other) = elsewhere words w 0 x other ∙ sym (and_true (pins_of words x)) ∙ ap (λ b. pins_of words x && not b) (sym (ne_eqb (word_of x) w other))
 
--- and they join the hand, which had none of that word
-pub taken : (words hand : List ℕ) (w n : ℕ) → n ≡ get_or words w 0 → w < length hand → ((x : Event) → pins_of hand x ≡ true → word_of x ≢ w)
-    → pins_of (slice_set hand w n) ≡ (λ x. pins_of hand x || (pins_of words x && (word_of x == w)))
-taken words hand w n is within none = λ i x. by_word x (cases_eq (word_of x) w) i
-  where
-    unheld : (x : Event) → word_of x ≡ w → pins_of hand x ≡ false
-    unheld x same = false_from_ne_true (pins_of hand x) (λ held. none x held same)
+-- ---- a hand, which has the first words
 
-    by_word : (x : Event) → (word_of x ≡ w) ⊎ (word_of x ≢ w) → pins_of (slice_set hand w n) x ≡ (pins_of hand x || (pins_of words x && (word_of x == w)))
+push_other : (hand : List ℕ) (n j : ℕ) → j ≢ length hand → get_or (hand ++ n ∷ []) j 0 ≡ get_or hand j 0
+push_other [] n zero d = absurd (d refl)
+push_other [] n (suc j) d = refl
+push_other (x ∷ xs) n zero d = refl
+push_other (x ∷ xs) n (suc j) d = push_other xs n j (λ e. d (ap suc e))
+
+push_here : (hand : List ℕ) (n j : ℕ) → j ≡ length hand → get_or (hand ++ n ∷ []) j 0 ≡ n
+push_here hand n j e = get_or_push hand n 0 j (sym e)
+
+past_end : (hand : List ℕ) (j : ℕ) → j ≡ length hand → get_or hand j 0 ≡ 0
+past_end [] j e = refl
+past_end (x ∷ xs) zero e = absurd (omega arith)
+past_end (x ∷ xs) (suc j) e = past_end xs j (omega arith)
+
+-- the pins of the next word join the hand
+pub hand_more : (words hand : List ℕ) (w n : ℕ) → w ≡ length hand → n ≡ get_or words w 0
+    → pins_of (hand ++ n ∷ []) ≡ (λ x. pins_of hand x || (pins_of words x && (word_of x == w)))
+hand_more words hand w n at is = λ i x. by_word x (cases_eq (word_of x) w) i
+  where
+    by_word : (x : Event) → (word_of x ≡ w) ⊎ (word_of x ≢ w) → pins_of (hand ++ n ∷ []) x ≡ (pins_of hand x || (pins_of words x && (word_of x == w)))
     by_word x (inl same) =
-        here hand w n x within same
-        ∙ ap (λ t. told t x) (is ∙ ap (λ u. get_or words u 0) (sym same))
+        ap (λ t. told t x) (push_here hand n (word_of x) (same ∙ at) ∙ is ∙ ap (λ u. get_or words u 0) (sym same))
         ∙ sym (and_true (pins_of words x))
-        ∙ ap (λ b. b || (pins_of words x && true)) (sym (unheld x same))
+        ∙ ap (λ b. b || (pins_of words x && true)) (sym (ap (λ t. told t x) (past_end hand (word_of x) (same ∙ at)) ∙ ap (λ t. t == 1) (bit_at-zero (bit_of x))))
         ∙ ap (λ b. pins_of hand x || (pins_of words x && b)) (sym (eq-eqb (word_of x) w same))
     by_word x (inr other) =
-        elsewhere hand w n x other
+        ap (λ t. told t x) (push_other hand n (word_of x) (λ e. other (e ∙ sym at)))
         ∙ sym (or_false (pins_of hand x) (pins_of words x && false) (and_false (pins_of words x)))
         ∙ ap (λ b. pins_of hand x || (pins_of words x && b)) (sym (ne_eqb (word_of x) w other))
+
+-- and the next word is one of those that were collected
+pub words_more : (hand : List ℕ) (w n : ℕ) → w ≡ length hand → (λ u. nat_lt u (length (hand ++ n ∷ []))) ≡ (λ u. nat_lt u (length hand) || (u == w))
+words_more hand w n at = λ i u. ((ap (λ k. nat_lt u k) (length_push hand n)) ∙ by_word u (cases_order u (length hand))) i
+  where
+    by_word : (u : ℕ) → (u ≡ length hand) ⊎ ((u < length hand) ⊎ (length hand < u)) → nat_lt u (length hand + 1) ≡ (nat_lt u (length hand) || (u == w))
+    by_word u (inl same) = lt-ltb u (length hand + 1) (omega arith) ∙ sym (or_right (nat_lt u (length hand)) (u == w) (eq-eqb u w (same ∙ sym at)))
+    by_word u (inr (inl less)) = lt-ltb u (length hand + 1) (omega arith) ∙ sym (or_left (nat_lt u (length hand)) (u == w) (lt-ltb u (length hand) less))
+    by_word u (inr (inr more)) = le-ltb u (length hand + 1) (omega arith) ∙ sym (or_from (nat_lt u (length hand)) (u == w) (le-ltb u (length hand) (omega arith)) (ne_eqb u w (λ e. absurd (omega arith))))
