@@ -70,9 +70,9 @@ impl<B: Recorded> LockTable<B> {
     {
         let mut inner = risen(mem::replace(&mut seat.badge, Badge::blank()));
         self.table.shared.load::<Lift>(&mut inner, 0);
-        let None = self.table.shared.exchange(&mut inner, 0, Some(turn.board)) else {
-            unreachable!()
-        };
+        let Turn { board } = turn;
+        let empty = self.table.shared.exchange(&mut inner, 0, Some(board));
+        let None = empty else { unreachable!() };
         self.table.shared.store::<Give>(&mut inner, 0, 0);
         seat.badge = inner.into_badge();
     }
