@@ -1,2 +1,4 @@
 pub mod Bits
 pub mod Pins
+pub mod Rule
+pub mod Views

@@ -6,8 +6,10 @@
 #![tactic(auto)]
 
 pub mod laws;
+mod view;
 mod words;
 
+pub use view::{Occupant, Part, SeatPhase, Stage, View};
 pub use words::{Attempt, Bits, Words};
 
 #[cfg(test)]
