@@ -1,2 +1,3 @@
+pub mod OneStep
 mod Places
 pub mod PinWords
