@@ -1,3 +1,7 @@
+mod Histories
 pub mod OneStep
-mod Places
 pub mod PinWords
+mod Places
+pub mod Stepping
+pub mod TurnSteps
+pub mod SeatFacts
