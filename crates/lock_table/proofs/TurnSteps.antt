@@ -1,5 +1,5 @@
 -- Taking the turn and giving it back keep the rule.
-use Rattle.std.proofs.Common.{◌≡◌, ◌≢◌, ◌⊎◌, inl, inr, ℕ, eqb, zero, suc, ◌+◌, ◌==◌, Bool, true, false, List, [], ◌∷◌, ◌++◌, map, reverse, length, get_or, set, refl, sym, ap, subst, ◌∙◌, IsSome, Option, Some, None, arith}
+use Rattle.std.proofs.Common.{◌≡◌, ◌≢◌, ◌⊎◌, inl, inr, ℕ, eqb, zero, suc, ◌+◌, ◌==◌, Bool, true, false, List, [], ◌∷◌, ◌++◌, map, reverse, length, get_or, set, refl, sym, ap, subst, ◌∙◌, IsSome, Option, Some, None, unwrap_or, arith}
 use mathlib.Core.Option as m
 use lib.ListN.{get_elem?}
 use lib.Seq.{set-get_or}
@@ -248,3 +248,33 @@ module _ {B X : Type 0} (lists : X → List (List Event)) (base : B → X) (entr
               (λ j u other there sits. elsewhere j other (parts_in u.who) sits) (λ first starts. starts_further k.core.history first (map (entry p.actor) deeds) starts)
               (subst (λ w. EachPart (Sits after k.seat_of id) (parts_in w)) (sym now) (here, tt))
               (subst (HoldsInTurn stage.Away) (sym now) (λ _. lets_go _))
+
+  -- the board in the slot that a seat holds
+  board_in : B → List (ℕ × Option B) → B
+  board_in d [] = d
+  board_in d (x ∷ xs) = unwrap_or x.1 d
+
+  pub gives_turn : (slots id : ℕ) (v : View) (b : B) (me : Mine B) → me ≡ (v, (0, Some b) ∷ []) → v.stage ≡ stage.Holding → base b ≡ base key → MayAdd v.who v.seen (entries b)
+      → Allows Rule slots id me 0 (λ _. 0) (λ _. Given entries no_step me 0)
+  unfolding board_in
+  gives_turn slots id v b me at_me inside same_base may = subst (λ x. Allows Rule slots id x 0 (λ _. 0) (λ _. Given entries no_step x 0)) (sym at_me) all
+    where
+      board_there : (c : B) → ◌≡◌ {A = List (ℕ × Option B)} ((0, Some b) ∷ []) ((0, Some c) ∷ []) → b ≡ c
+      board_there c e = ap (board_in b) e
+
+      all : Allows Rule slots id (v, (0, Some b) ∷ []) 0 (λ _. 0) (λ _. Given entries no_step (v, (0, Some b) ∷ []) 0)
+      all s k _ at _ =
+          let w = gave (entries b) v in
+          let after = by_who v.who refl may in
+          (w, gives, tt, after, ((λ c e. ap (λ x. (gave (entries x) v, [])) (board_there c e)), own_of lists base entries key _ after id w (set_at s.views id v w at)))
+        where
+          has : HasTurn k.turn k.holder k.core.history s.homes id v
+          has = (k.fits id v at).holds (λ away. holding_away (sym inside ∙ away))
+
+          slot : set s.homes 0 (m.some (Some b)) ≡ m.some (Some b) ∷ []
+          slot = ap (λ l. set l 0 (m.some (Some b))) has.slot
+
+          by_who : (w : Occupant) → v.who ≡ w → MayAdd w v.seen (entries b) → Rule (stepped s 0 0 id ((0, Some b) ∷ []) (gave (entries b) v) gives)
+          by_who (who.Root ps) is same = giving_root s k id v at has b same_base _ slot ps is same
+          by_who (who.One p) is added = giving_one s k id v at has b same_base _ slot p is added.0 added.1 added.2
+          by_who who.Nobody is same = absurd (subst IsSomebody is has.somebody)
