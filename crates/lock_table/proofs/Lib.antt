@@ -1,3 +1,4 @@
+pub mod LockWord
 pub mod OneStep
-mod Places
 pub mod PinWords
+mod Places

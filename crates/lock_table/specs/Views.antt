@@ -255,3 +255,17 @@ pub record IsOwn (v : View) : Type 0 where
 abbrev pub MayAdd : Occupant → List Entry → List Entry → Type 0
 MayAdd (who.One p) seen after = (deeds : List Deed) × (after ≡ seen ++ map (entry p.actor) deeds) × IsTurn (phase_of p.phase) (reverse seen) p.actor deeds
 MayAdd _ seen after = after ≡ seen
+
+-- ---- phases that a step asks for
+
+-- it competes for the Global Lock, and has loaded this word or none
+abbrev pub IsSeeking : Part → Type 0
+IsSeeking p = (l : Option ℕ) × (p.phase ≡ kept.Lock (lock.Seeking l))
+
+-- it has loaded the lock's word, which was l
+abbrev pub HasLoaded : ℕ → Part → Type 0
+HasLoaded l p = p.phase ≡ kept.Lock (lock.Seeking (Some l))
+
+-- it has disowned the lock, and not released its word
+abbrev pub IsQuit : Part → Type 0
+IsQuit p = p.phase ≡ kept.Lock lock.Quit

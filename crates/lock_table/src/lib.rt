@@ -6,9 +6,17 @@
 #![tactic(auto)]
 
 pub mod laws;
+mod plays;
+mod rule;
+mod seat;
+mod table;
+mod turns;
 mod view;
 mod words;
 
+pub use acpi_regs::{PulseLists, Recorded};
+pub use seat::{Entered, TableSeat, Turn};
+pub use table::LockTable;
 pub use view::{Occupant, Part, SeatPhase, Stage, View};
 pub use words::{Attempt, Bits, Words};
 

@@ -1,0 +1,40 @@
+use crate::view::View;
+use acpi_regs::Actor;
+use atomic_table::Badge;
+use std::marker::Model;
+
+/// One actor's pass to a table, or the root's.
+///
+/// Contracts see its table, its number there, and what it knows: its actor with phase and entries, and the history that it
+/// has seen.
+#[derive(Drop)]
+pub struct TableSeat {
+    pub(crate) badge: Badge<View>,
+    /// The actor; none for the root.
+    pub(crate) actor: Option<Actor>,
+    /// What the actor's last release found.
+    pub(crate) signal: bool,
+}
+
+impl Model for TableSeat {
+    ghost use Rattle.lock_table.specs.Calls.{IsSeat, Pass, pass_of};
+
+    ghost Value = { Pass };
+
+    ghost view = { λ s. pass_of s.badge };
+
+    ghost invariant = { λ s. IsSeat s.badge s.actor s.signal };
+}
+
+/// The board while its seat has the turn.
+pub struct Turn<B> {
+    pub(crate) board: B,
+}
+
+/// What trying to take the turn comes to.
+pub enum Entered<B> {
+    /// The turn is the seat's.
+    Turn(Turn<B>),
+    /// Another seat has it.
+    Out,
+}
