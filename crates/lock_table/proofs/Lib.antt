@@ -1,4 +1,5 @@
 pub mod LockWord
 pub mod OneStep
+pub mod PinWord
 pub mod PinWords
 mod Places

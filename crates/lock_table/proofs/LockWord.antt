@@ -48,7 +48,7 @@ module _ {B X : Type 0} (lists : X → List (List Event)) (base : B → X) (entr
   found s h = ap (λ ws. get_or ws 1 0) h.words
 
   -- the phase of the one actor that sits there
-  phase_in : (s : State (Option B) View) (h : Rule s) (id : ℕ) (v : View) (p : Part) → get_elem? s.views id ≡ m.some v → v.who ≡ who.One p → phase_of p.phase ≡ h.core.phases p.actor
+  pub phase_in : (s : State (Option B) View) (h : Rule s) (id : ℕ) (v : View) (p : Part) → get_elem? s.views id ≡ m.some v → v.who ≡ who.One p → phase_of p.phase ≡ h.core.phases p.actor
   phase_in s h id v p at one = (subst (λ o. EachPart (Sits h.core h.seat_of id) (parts_in o)) one (h.fits id v at).sits).0.2.0
 
   good_word : (s : State (Option B) View) (h : Rule s) → is_word (get_or s.words 1 0) ≡ true
