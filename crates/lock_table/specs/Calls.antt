@@ -10,6 +10,7 @@ use Rattle.acpi_regs.specs.Core.{Core}
 use Rattle.acpi_regs.specs.CoreSound.{CoreSound}
 use Rattle.lock_table.specs.declared.view.Occupant.{Occupant}
 use Rattle.lock_table.specs.declared.view.Occupant.TheVariants as who
+use Rattle.lock_table.specs.declared.view.Part.{Part}
 use Rattle.lock_table.specs.declared.view.SeatPhase.{SeatPhase}
 use Rattle.lock_table.specs.declared.view.SeatPhase.TheVariants as kept
 use Rattle.lock_table.specs.declared.view.Stage.TheVariants as stage
@@ -55,6 +56,10 @@ pub record IsSeat (badge : Badge View) (actor : Option Actor) (signal : Bool) : 
   pub own : IsOwn (view_in badge.views)
   pub named : actor ≡ actor_in (view_in badge.views).who
   pub signalled : KnowsSignal signal (view_in badge.views).who
+
+-- one actor's
+abbrev pub IsOne : Occupant → Type 0
+IsOne w = (p : Part) × (w ≡ who.One p)
 
 -- the same seat
 abbrev pub SameSeat : Pass → Pass → Type 0

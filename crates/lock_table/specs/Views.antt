@@ -245,10 +245,19 @@ HasActor a v = IsSome (find a (root_parts v.who))
 abbrev pub HasAll : View → Type 0
 HasAll v = (a : Actor) → is_known a ≡ true → HasActor a v
 
--- each phase is of its actor's kind, and away from the table nobody holds pins
+abbrev pub NotHolding : Part → Type 0
+NotHolding p = is_holding (phase_of p.phase) ≡ false
+
+-- pins are held by one whose seat has the turn
+abbrev pub HoldsInTurn : Stage → Occupant → Type 0
+HoldsInTurn g (who.Root ps) = EachPart NotHolding ps
+HoldsInTurn g (who.One p) = g ≡ stage.Away → NotHolding p
+HoldsInTurn g who.Nobody = Unit {0}
+
+-- each phase is of its actor's kind, and without the turn nobody holds pins
 pub record IsOwn (v : View) : Type 0 where
   pub kinds : EachPart (λ p. is_kind p.actor (phase_of p.phase) ≡ true) (parts_in v.who)
-  pub free : v.stage ≡ stage.Away → EachPart (λ p. is_holding (phase_of p.phase) ≡ false) (parts_in v.who)
+  pub free : HoldsInTurn v.stage v.who
 
 -- what a turn adds, between taking it and giving it back: by the root nothing, by an actor entries of its own that a turn in
 -- its phase may add

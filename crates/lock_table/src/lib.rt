@@ -9,6 +9,7 @@ pub mod laws;
 mod plays;
 mod rule;
 mod seat;
+mod seats;
 mod table;
 mod turns;
 mod view;
