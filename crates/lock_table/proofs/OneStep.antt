@@ -135,7 +135,7 @@ module _ {B X : Type 0} (lists : X → List (List Event)) (base : B → X) (entr
               sits = (own h.core h.seat_of p.actor q word held id p k t f w refl is mine.0, tt);
               root = tt;
               holds = turn;
-              free = λ away. (ap is_holding is ∙ free away, tt);
+              free = λ away. ap is_holding is ∙ free away;
             }
         by_seat (inr it) =
             let old = h.fits j u it.1 in

@@ -39,7 +39,7 @@ use Rattle.lock_table.proofs.PinWords.{cleared, hand_more, set_in, words_more}
 past_two : (a b : ℕ) (l : List ℕ) (i w : ℕ) → i ≡ w + 2 → get_or (a ∷ b ∷ l) i 0 ≡ get_or l w 0
 past_two a b l i w e = let two : i ≡ suc (suc w) = omega arith in ap (λ j. get_or (a ∷ b ∷ l) j 0) two
 
-set_past_two : (a b : ℕ) (l : List ℕ) (i w x : ℕ) → i ≡ w + 2 → set (a ∷ b ∷ l) i x ≡ a ∷ b ∷ set l w x
+pub set_past_two : (a b : ℕ) (l : List ℕ) (i w x : ℕ) → i ≡ w + 2 → set (a ∷ b ∷ l) i x ≡ a ∷ b ∷ set l w x
 set_past_two a b l i w x e = let two : i ≡ suc (suc w) = omega arith in ap (λ j. set (a ∷ b ∷ l) j x) two
 
 word_small : (n : Event) → event_rank n < all_events → word_of n < 5
@@ -57,7 +57,7 @@ module _ {B X : Type 0} (lists : X → List (List Event)) (base : B → X) (entr
   Rule = Kept lists base entries key
 
   -- a pin word
-  found : (s : State (Option B) View) (h : Rule s) (i w : ℕ) → i ≡ w + 2 → get_or s.words i 0 ≡ get_or h.pins w 0
+  pub found : (s : State (Option B) View) (h : Rule s) (i w : ℕ) → i ≡ w + 2 → get_or s.words i 0 ≡ get_or h.pins w 0
   found s h i w at = ap (λ ws. get_or ws i 0) h.words ∙ past_two h.turn h.core.word h.pins i w at
 
   pub pulses_keep : (slots id i mask : ℕ) (e : Event) (x : Me (Option B) View) → i ≡ word_of e + 2 → mask ≡ 1 * 2 ^ bit_of e % 2 ^ 64 → event_rank e < all_events → ForOne (IsNext (lists (base key)) e) x.0.who
