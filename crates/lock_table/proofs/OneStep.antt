@@ -12,7 +12,7 @@ use Rattle.acpi_regs.specs.declared.event.Event.{Event}
 use Rattle.acpi_regs.specs.Actor.{same_actor}
 use Rattle.acpi_regs.specs.Core.{Core}
 use Rattle.acpi_regs.specs.CoreEvents.{is_holding}
-use Rattle.acpi_regs.specs.CoreSound.{CoreSound}
+use Rattle.acpi_regs.specs.CoreSound.{AreOfKind, CoreSound, is_kind}
 use Rattle.acpi_regs.specs.Phases.{Phase, put}
 use Rattle.acpi_regs.proofs.LockActors.{actor_true, put_other, put_self}
 use Rattle.lock_table.specs.declared.view.Occupant.{Occupant}
@@ -23,7 +23,7 @@ use Rattle.lock_table.specs.declared.view.Stage.TheVariants as stage
 use Rattle.lock_table.specs.declared.view.View.{View}
 use Rattle.lock_table.specs.Pins.{pins_of}
 use Rattle.lock_table.specs.Rule.{Fits, HasTurn, IsOut, IsSeated, Kept, Sits}
-use Rattle.lock_table.specs.Views.{EachPart, ForOne, find, parts_in, phase_of}
+use Rattle.lock_table.specs.Views.{EachPart, ForOne, IsOwn, find, map_one, parts_in, phase_of, with_one}
 
 -- the seat of one actor
 pub for_one : (P : Part → Type 0) (w : Occupant) → ForOne P w → (p : Part) × (w ≡ who.One p) × P p
@@ -42,6 +42,9 @@ with_phase p k t f w = record { actor = p.actor; phase = k; mine = p.mine; tried
 
 abbrev pub seat_of_one : View → Part → View
 seat_of_one v p = record { who = who.One p; seen = v.seen; told = v.told; stage = v.stage }
+
+pub of_one : (f : Part → Part) (v : View) (p : Part) → v.who ≡ who.One p → with_one f v ≡ seat_of_one v (f p)
+of_one f v p e = ap (λ o. record { who = map_one f o; seen = v.seen; told = v.told; stage = v.stage }) e
 
 module _ (core : Core) (seat_of : Actor → ℕ) (a : Actor) (q : Phase) (word : ℕ) (pins : Event → Bool) where
   abbrev pub changed : Core
@@ -145,8 +148,8 @@ module _ {B X : Type 0} (lists : X → List (List Event)) (base : B → X) (entr
               free = old.free;
             }
 
-    pub keeps : length pins ≡ 5 → ((n : Event) → held n ≡ pins_of pins n) → CoreSound (lists (base key)) now → (v.stage ≡ stage.Away → is_holding q ≡ false) → words ≡ h.turn ∷ word ∷ pins → Kept lists base entries key later
-    keeps five pinned sound free there = record {
+    pub keeps_one : length pins ≡ 5 → ((n : Event) → held n ≡ pins_of pins n) → CoreSound (lists (base key)) now → (v.stage ≡ stage.Away → is_holding q ≡ false) → words ≡ h.turn ∷ word ∷ pins → Kept lists base entries key later
+    keeps_one five pinned sound free there = record {
       turn = h.turn;
       holder = h.holder;
       pins = pins;
@@ -161,3 +164,13 @@ module _ {B X : Type 0} (lists : X → List (List Event)) (base : B → X) (entr
       seated = λ a is. still_seated a (h.seated a is);
       fits = fits free;
     }
+
+-- ---- what the rule tells of a seat
+
+kinds : (core : Core) (seat_of : Actor → ℕ) (j : ℕ) → AreOfKind core.phases → (ps : List Part) → EachPart (Sits core seat_of j) ps → EachPart (λ p. is_kind p.actor (phase_of p.phase) ≡ true) ps
+kinds core seat_of j all [] is = tt
+kinds core seat_of j all (p ∷ ps) is = (ap (is_kind p.actor) is.0.2.0 ∙ all p.actor, kinds core seat_of j all ps is.1)
+
+-- each phase is of its actor's kind, and away from the table nobody holds pins
+pub own_of : {B X : Type 0} (lists : X → List (List Event)) (base : B → X) (entries : B → List Entry) (key : B) (s : State (Option B) View) → Kept lists base entries key s → (id : ℕ) (v : View) → get_elem? s.views id ≡ m.some v → IsOwn v
+own_of lists base entries key s h id v at = let fit = h.fits id v at in record { kinds = kinds h.core h.seat_of id h.sound.kinds (parts_in v.who) fit.sits; free = fit.free }

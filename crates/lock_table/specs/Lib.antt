@@ -4,3 +4,4 @@ pub mod Pins
 pub mod Plays
 pub mod Rule
 pub mod Views
+pub mod WordPlays

@@ -2,7 +2,7 @@
 --
 -- A seat knows the entries that it has seen, and of its actor the phase, the entries that the actor made, how often it tried,
 -- what the last try found, and how many pin words it collected.
-use Rattle.std.specs.Prelude.{ℕ, zero, suc, ◌≡◌, ◌+◌, ◌==◌, nat_lt, nat_le, Bool, true, false, List, [], ◌∷◌, ◌++◌, length, drop, map, reverse, Option, Some, None, IsSome, if◌then◌else◌}
+use Rattle.std.specs.Prelude.{ℕ, zero, suc, ◌≡◌, ◌+◌, ◌==◌, nat_lt, nat_le, Bool, true, false, List, [], ◌∷◌, ◌++◌, length, drop, map, reverse, Option, Some, None, IsSome, slice_get, if◌then◌else◌}
 use Rattle.acpi_regs.specs.declared.actor.Actor.{Actor}
 use Rattle.acpi_regs.specs.declared.actor.Actor.TheVariants as actor
 use Rattle.acpi_regs.specs.declared.entry.Deed.{Deed}
@@ -11,7 +11,7 @@ use Rattle.acpi_regs.specs.declared.event.Event.{Event}
 use Rattle.acpi_regs.specs.declared.phase.LockPhase.TheVariants as lock
 use Rattle.acpi_regs.specs.declared.phase.Pulse.{Pulse}
 use Rattle.acpi_regs.specs.Actor.{same_actor}
-use Rattle.acpi_regs.specs.CoreEvents.{IsTurn, entry, is_holding, tried}
+use Rattle.acpi_regs.specs.CoreEvents.{IsTurn, entry, is_holding, is_host, list_of, tried}
 use Rattle.acpi_regs.specs.CoreSound.{is_kind}
 use Rattle.acpi_regs.specs.Phases.{Free, Holding, Lock, Phase, Pulsed, moved}
 use Rattle.facs_word.specs.Word.{is_pending}
@@ -264,3 +264,29 @@ pub record IsOwn (v : View) : Type 0 where
 abbrev pub MayAdd : Occupant → List Entry → List Entry → Type 0
 MayAdd (who.One p) seen after = (deeds : List Deed) × (after ≡ seen ++ map (entry p.actor) deeds) × IsTurn (phase_of p.phase) (reverse seen) p.actor deeds
 MayAdd _ seen after = after ≡ seen
+
+-- ---- phases that a step asks for
+
+-- it competes for the Global Lock, and has loaded this word or none
+abbrev pub IsSeeking : Part → Type 0
+IsSeeking p = (l : Option ℕ) × (p.phase ≡ kept.Lock (lock.Seeking l))
+
+-- it has loaded the lock's word, which was l
+abbrev pub HasLoaded : ℕ → Part → Type 0
+HasLoaded l p = p.phase ≡ kept.Lock (lock.Seeking (Some l))
+
+-- it has disowned the lock, and not released its word
+abbrev pub IsQuit : Part → Type 0
+IsQuit p = p.phase ≡ kept.Lock lock.Quit
+
+-- it is a device, and e the next event of its list
+abbrev pub IsNext : List (List Event) → Event → Part → Type 0
+IsNext lists e p = (d : ℕ) × (p.actor ≡ actor.Device d) × (slice_get (list_of lists d) (length (pulses_of p.phase)) ≡ Some e)
+
+-- it is int or poll, and has collected the first w pin words
+abbrev pub HasCollected : ℕ → Part → Type 0
+HasCollected w p = (is_host p.actor ≡ true) × (length (hand_of p.phase) ≡ w)
+
+-- it is int or poll, and has collected nothing
+abbrev pub IsFreeHost : Part → Type 0
+IsFreeHost p = (is_host p.actor ≡ true) × (p.phase ≡ kept.Free)
