@@ -1,10 +1,13 @@
 pub mod Collecting
 mod Histories
+pub mod Joining
 pub mod LockWord
 pub mod OneStep
+pub mod PartLists
 pub mod PinWord
 pub mod PinWords
 mod Places
 pub mod SeatFacts
+pub mod Splitting
 pub mod Stepping
 pub mod TurnSteps
