@@ -4,7 +4,7 @@ use mathlib.Core.Option as m
 use mathlib.Core.Option.{some-injective}
 use lib.ListN.{get_elem?}
 use lib.Seq.{set-get_or}
-use Rattle.std.proofs.lemmas.Bool.{cases_eq}
+use Rattle.std.proofs.lemmas.Bool.{cases_eq, leb-false, leb-true}
 use Rattle.atomic_table.specs.Table.{Allows, Joins, State, Step, keeps, step}
 use Rattle.atomic_table.proofs.Lists.{at_set, set_else}
 use Rattle.acpi_regs.specs.declared.actor.Actor.{Actor}
@@ -25,6 +25,46 @@ use Rattle.lock_table.proofs.OneStep.{set_at}
 use Rattle.lock_table.proofs.PartLists.{each_map}
 use Rattle.lock_table.proofs.Splitting.{moved_to}
 use Rattle.lock_table.proofs.Stepping.{Homes, built, others_same, still_out}
+
+-- ---- of two beginnings of a history the longer begins with both
+
+head_or : Entry → List Entry → Entry
+head_or d [] = d
+head_or d (e ∷ es) = e
+
+tail_of : List Entry → List Entry
+tail_of [] = []
+tail_of (e ∷ es) = es
+
+no_empty : (e : Entry) (es : List Entry) → ◌≡◌ {A = List Entry} (e ∷ es) [] → ⊥
+no_empty e es h = let l = ap length h in absurd (omega (arith, l))
+
+begins : (a b x y : List Entry) → a ++ x ≡ b ++ y → length a ≤ length b → StartsWith b a
+unfolding head_or tail_of
+begins [] b x y same shorter = (b, refl)
+begins (e ∷ a) [] x y same shorter = absurd (omega (arith, shorter))
+begins (e ∷ a) (f ∷ b) x y same shorter =
+    let h = begins a b x y (ap tail_of same) (let l = shorter in omega (arith, l)) in
+    (h.0, (λ i. sym (ap (head_or e) same) i ∷ h.1 i))
+
+pub longer_begins : (h a b : List Entry) → StartsWith h a → StartsWith h b → StartsWith h (longer a b) × StartsWith (longer a b) a × StartsWith (longer a b) b
+longer_begins h a b first second = by_length (nat_le (length a) (length b)) refl
+  where
+    by_length : (c : Bool) → nat_le (length a) (length b) ≡ c → StartsWith h (cond c b a) × StartsWith (cond c b a) a × StartsWith (cond c b a) b
+    by_length true is = (second, begins a b first.0 second.0 (sym first.1 ∙ second.1) (leb-true (length a) (length b) is), ([], sym (append-nil b)))
+    by_length false is = (first, ([], sym (append-nil a)), begins b a second.0 first.0 (sym second.1 ∙ first.1) (let more = leb-false (length a) (length b) is in omega (arith, more)))
+
+-- the whole history is no shorter than a beginning
+longer_whole : (h b : List Entry) → StartsWith h b → longer h b ≡ h
+longer_whole h b first = by_length (nat_le (length h) (length b)) refl
+  where
+    nothing : (more : List Entry) → h ≡ b ++ more → length h ≤ length b → b ≡ h
+    nothing [] is shorter = sym (is ∙ append-nil b)
+    nothing (e ∷ more) is shorter = let l = ap length is ∙ length-append b (e ∷ more) in absurd (omega (arith, l, shorter))
+
+    by_length : (c : Bool) → nat_le (length h) (length b) ≡ c → cond c b h ≡ h
+    by_length true is = nothing first.0 first.1 (leb-true (length h) (length b) is)
+    by_length false is = refl
 
 module _ {B X : Type 0} (lists : X → List (List Event)) (base : B → X) (entries : B → List Entry) (key : B) where
   abbrev Rule : State (Option B) View → Type 0
@@ -149,15 +189,12 @@ module _ {B X : Type 0} (lists : X → List (List Event)) (base : B → X) (entr
     fits_at : (j : ℕ) (u : View) → get_elem? views j ≡ m.some u → Fits k.turn k.holder k.core seat_of s.homes j u
     fits_at j u h = by_other (at_set first other j spent_view u h)
       where
-        abbrev Fit : ℕ → View → Type 0
-        Fit i x = Fits k.turn k.holder k.core seat_of s.homes i x
-
-        by_root : j ≢ other → ((j ≡ id) × (both ≡ u)) ⊎ ((j ≢ id) × (get_elem? s.views j ≡ m.some u)) → Fit j u
-        by_root not_other (inl it) = subst (λ x. Fit j x) it.1 (subst (λ i. Fit i both) (sym it.0) fits_both)
+        by_root : j ≢ other → ((j ≡ id) × (both ≡ u)) ⊎ ((j ≢ id) × (get_elem? s.views j ≡ m.some u)) → Fits k.turn k.holder k.core seat_of s.homes j u
+        by_root not_other (inl it) = subst (λ x. Fits k.turn k.holder k.core seat_of s.homes j x) it.1 (subst (λ i. Fits k.turn k.holder k.core seat_of s.homes i both) (sym it.0) fits_both)
         by_root not_other (inr it) = fits_other j u not_other it.1
 
-        by_other : ((j ≡ other) × (spent_view ≡ u)) ⊎ ((j ≢ other) × (get_elem? first j ≡ m.some u)) → Fit j u
-        by_other (inl it) = subst (λ x. Fit j x) it.1 (subst (λ i. Fit i spent_view) (sym it.0) fits_spent)
+        by_other : ((j ≡ other) × (spent_view ≡ u)) ⊎ ((j ≢ other) × (get_elem? first j ≡ m.some u)) → Fits k.turn k.holder k.core seat_of s.homes j u
+        by_other (inl it) = subst (λ x. Fits k.turn k.holder k.core seat_of s.homes j x) it.1 (subst (λ i. Fits k.turn k.holder k.core seat_of s.homes i spent_view) (sym it.0) fits_spent)
         by_other (inr it) = by_root it.0 (at_set s.views id j both u it.1)
 
     join_kept : Rule (record { words = s.words; homes = s.homes; views = views })
@@ -184,3 +221,27 @@ module _ {B X : Type 0} (lists : X → List (List Event)) (base : B → X) (entr
       → Joins Rule id me.0 other its.0 (rejoined me.0 its.0) spent_view
   joins_here id other v w me its ps p at at_other is one away =
       subst (λ (x : Mine B). Joins Rule id x.0 other its.0 (rejoined x.0 its.0) spent_view) (sym at) (subst (λ (y : Mine B). Joins Rule id v other y.0 (rejoined v y.0) spent_view) (sym at_other) (joins_keep id v other w ps p is one away))
+
+  -- ---- the look
+
+  looking : (s : State (Option B) View) (k : Rule s) (id : ℕ) (v : View) → get_elem? s.views id ≡ m.some v → Rule (record { words = set s.words 0 (get_or s.words 0 0); homes = s.homes; views = set s.views id (learned v) })
+  looking s k id v at =
+      let f = k.fits id v at in
+      built lists base entries key s k id v (learned v) at k.turn k.holder k.core s.homes (set s.words 0 (get_or s.words 0 0))
+          (set-get_or s.words 0 0 ∙ k.words) k.pinned k.home (still_out lists base entries key s k id v (learned v) at (λ inside. inside))
+          k.sound (λ a found. found)
+          (λ j u other there. others_same lists base entries key s k id v (learned v) at k.turn k.holder s.homes j u (λ has. has) there)
+          (record {
+            seen = (longer_begins k.core.history v.seen v.told f.seen f.told).0;
+            told = (k.core.history, refl);
+            sits = f.sits;
+            root = f.root;
+            holds = λ inside. let o = f.holds inside in record { out = o.out; holds = o.holds; whole = ap (λ l. longer l v.told) o.whole ∙ longer_whole k.core.history v.told f.told; slot = o.slot; somebody = o.somebody };
+            free = f.free;
+          })
+
+  pub looks : (slots id : ℕ) (v : View) (me : Mine B) → me ≡ (v, []) → Allows Rule slots id me 0 (λ n. n) (λ n. Looked (step 0 0 0 0 m.none) me n)
+  looks slots id v me at_me = subst (λ x. Allows Rule slots id x 0 (λ n. n) (λ n. Looked (step 0 0 0 0 m.none) x n)) (sym at_me) all
+    where
+      all : Allows Rule slots id (v, []) 0 (λ n. n) (λ n. Looked (step 0 0 0 0 m.none) (v, []) n)
+      all s k _ at _ = let f = k.fits id v at in let l = longer_begins k.core.history v.seen v.told f.seen f.told in (learned v, keeps, tt, looking s k id v at, (refl, l.1, l.2))

@@ -15,10 +15,10 @@ use Rattle.lock_table.specs.declared.view.SeatPhase.{SeatPhase}
 use Rattle.lock_table.specs.declared.view.SeatPhase.TheVariants as kept
 use Rattle.lock_table.specs.declared.view.Stage.TheVariants as stage
 use Rattle.lock_table.specs.declared.view.View.{View}
-use Rattle.lock_table.specs.Calls.{IsSeat, KnowsSignal, Pass, Signals, actor_in, pass_of, view_in}
+use Rattle.lock_table.specs.Calls.{IsOne, IsSeat, KnowsSignal, Pass, Signals, actor_in, pass_of, view_in}
 use Rattle.lock_table.specs.Plays.{Mine}
 use Rattle.lock_table.specs.Rule.{IsSomebody}
-use Rattle.lock_table.specs.Views.{EachPart, HoldsInTurn, IsOwn, NotHolding, after_deed, after_deeds, deeds_of, find, fresh, gave, less, let_go, lone, map_one, new_in, parts_in, phase_of, root_parts, seated, staged, took, without, wrote}
+use Rattle.lock_table.specs.Views.{EachPart, HoldsInTurn, IsOwn, IsRoot, NotHolding, after_deed, after_deeds, deeds_of, find, fresh, gave, learned, less, let_go, lone, map_one, more, new_in, parts_in, phase_of, rejoined, root_parts, seated, staged, took, without, wrote}
 use Rattle.lock_table.proofs.PartLists.{each_other}
 use Rattle.lock_table.proofs.Splitting.{fresh_free}
 use Rattle.lock_table.proofs.Stepping.{still_somebody}
@@ -166,3 +166,27 @@ seat_fresh c v a b found same there =
     is_seat c (seated a v) (Some b) false there
         (record { kinds = subst (λ w. EachPart (λ q. is_kind q.actor (phase_of q.phase) ≡ true) (parts_in w)) one (fresh_kind a, tt); free = subst (HoldsInTurn stage.Away) one (λ _. fresh_free a) })
         (subst IsSomebody one tt) (ap Some (sym same) ∙ ap actor_in one) (subst (KnowsSignal false) one (fresh_signal a))
+
+-- ---- the root of a join
+
+pub rejoined_me : {B : Type 0} (v w : View) (me its after : Mine B) → me ≡ (v, []) → its ≡ (w, []) → after ≡ (rejoined me.0 its.0, me.1) → after ≡ (rejoined v w, [])
+rejoined_me v w me its after at at_other is = is ∙ ap (λ y. (rejoined me.0 y.0, me.1)) at_other ∙ ap (λ x. (rejoined x.0 w, x.1)) at
+
+pub learned_me : {B : Type 0} (v : View) (me after : Mine B) → me ≡ (v, []) → after ≡ (learned me.0, me.1) → after ≡ (learned v, [])
+learned_me v me after at is = is ∙ ap (λ x. (learned x.0, x.1)) at
+
+pub seat_rejoined : (b c d : Badge View) (r t : Pass) (actor its : Option Actor) (signal found : Bool) → pass_of b ≡ r → IsSeat b actor signal → pass_of c ≡ t → IsSeat c its found → IsRoot r.view.who → IsOne t.view.who → t.view.stage ≡ stage.Away
+    → d.views ≡ learned (rejoined r.view t.view) ∷ [] → IsSeat d actor signal
+seat_rejoined b c d r t actor its signal found is h is_other other root one away there =
+    let own = subst (λ (q : Pass). IsOwn q.view) is h.own in
+    let its_own = subst (λ (q : Pass). IsOwn q.view) is_other other.own in
+    let now : more r.view.who t.view.who ≡ who.Root (one.0 ∷ root.0) = ap (λ o. more o t.view.who) root.1 ∙ ap (more (who.Root root.0)) one.1 in
+    let back = sym now in
+    is_seat d (learned (rejoined r.view t.view)) actor signal there
+        (record {
+          kinds = subst (λ w. EachPart (λ q. is_kind q.actor (phase_of q.phase) ≡ true) (parts_in w)) back ((subst (λ w. EachPart (λ q. is_kind q.actor (phase_of q.phase) ≡ true) (parts_in w)) one.1 its_own.kinds).0, subst (λ w. EachPart (λ q. is_kind q.actor (phase_of q.phase) ≡ true) (parts_in w)) root.1 own.kinds);
+          free = subst (HoldsInTurn r.view.stage) back (subst (HoldsInTurn t.view.stage) one.1 its_own.free away, subst (HoldsInTurn r.view.stage) root.1 own.free);
+        })
+        (subst IsSomebody back tt)
+        (h.named ∙ ap (λ (q : Pass). actor_in q.view.who) is ∙ ap actor_in root.1 ∙ ap actor_in back)
+        (subst (KnowsSignal signal) back tt)
