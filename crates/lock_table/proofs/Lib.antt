@@ -3,6 +3,7 @@ mod Histories
 pub mod Joining
 pub mod LockWord
 pub mod OneStep
+pub mod Opening
 pub mod PartLists
 pub mod PinWord
 pub mod PinWords
