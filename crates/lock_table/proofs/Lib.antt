@@ -1,3 +1,4 @@
+pub mod Closing
 pub mod Collecting
 mod Histories
 pub mod Joining
