@@ -1,3 +1,4 @@
+pub mod Attempts
 pub mod Collecting
 pub mod LockWord
 pub mod OneStep

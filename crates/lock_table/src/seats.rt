@@ -76,7 +76,9 @@ impl<B: Recorded> LockTable<B> {
     {
         let TableSeat { badge, .. } = seat;
         let mut inner = risen(mem::replace(&mut root.badge, Badge::blank()));
-        self.table.shared.join_seat::<Glue>(&mut inner, risen(badge));
+        self.table
+            .shared
+            .join_seat::<Glue>(&mut inner, risen(badge));
         self.table.shared.load::<Look>(&mut inner, 0);
         root.badge = inner.into_badge();
     }

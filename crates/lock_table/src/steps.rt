@@ -3,7 +3,7 @@ ghost use Rattle.std.specs.Prelude.{◌≡◌, ◌+◌, ◌<◌, ◌≤◌, ◌=
 ghost use Rattle.std.specs.Int.{bit_at};
 ghost use Rattle.acpi_regs.specs.CoreSound.{is_word};
 ghost use Rattle.acpi_regs.specs.Event.{bit_of, word_of};
-ghost use Rattle.lock_table.specs.Bits.{words_of};
+ghost use Rattle.lock_table.specs.Bits.{IsEvent, words_of};
 ghost use Rattle.lock_table.specs.Calls.{SameSeat, view_in};
 ghost use Rattle.lock_table.specs.Views.{ForOne, HasCollected, IsFreeHost, IsNext, IsOwn, IsQuit, IsSeeking, collects, hand_of, holding, pulses, with_one};
 ghost use Rattle.lock_table.specs.WordCalls.{Attempts, Releases};
@@ -41,6 +41,7 @@ fn pin_of(event: Event) -> (usize, u32)
     ensures word { result.0 ≡ word_of event + 2 }
     ensures bit { result.1 ≡ bit_of event }
     ensures small { (result.0 < 7) × (result.1 < 64) }
+    ensures known { IsEvent event }
 {
     match event {
         Event::Fixed(fixed) => (PINS, u32::from(fixed.bit())),
