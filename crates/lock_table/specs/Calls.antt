@@ -19,7 +19,7 @@ use Rattle.lock_table.specs.declared.seat.Entered.{Entered}
 use Rattle.lock_table.specs.declared.seat.Entered.TheVariants as entered
 use Rattle.lock_table.specs.declared.words.Words.{Words}
 use Rattle.lock_table.specs.Bits.{IsEvent, is_set}
-use Rattle.lock_table.specs.Rule.{StandsIn}
+use Rattle.lock_table.specs.Rule.{IsSomebody, StandsIn}
 use Rattle.lock_table.specs.Views.{EachPart, IsOwn, StartsWith, first_view, missed, root_parts, staged, took}
 
 -- ---- a seat
@@ -54,6 +54,7 @@ KnowsSignal signal _ = Unit {0}
 pub record IsSeat (badge : Badge View) (actor : Option Actor) (signal : Bool) : Type 0 where
   pub one_view : badge.views ≡ view_in badge.views ∷ []
   pub own : IsOwn (view_in badge.views)
+  pub somebody : IsSomebody (view_in badge.views).who
   pub named : actor ≡ actor_in (view_in badge.views).who
   pub signalled : KnowsSignal signal (view_in badge.views).who
 

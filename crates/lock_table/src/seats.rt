@@ -7,14 +7,13 @@ ghost use Rattle.lock_table.specs.declared.view.Stage.TheVariants as stage;
 use crate::plays::{Cut, Glue, Look, Named};
 use crate::seat::{TableSeat, Turn};
 use crate::table::LockTable;
-use crate::turns::risen;
+use crate::turns::{risen, taken};
 use crate::words::{Bits, Words};
 use acpi_regs::{Actor, Memory, Recorded};
-use atomic_table::{Badge, Table};
+use atomic_table::Table;
 use facs_word::Facs;
 use std::alloc::Global;
 use std::marker::Brand;
-use std::mem;
 
 impl<B: Recorded + Drop> LockTable<B> {
     /// A table with this board, which has no entries yet, and the root's seat. The lock is free, and no pin is set.
@@ -44,7 +43,7 @@ impl<B: Recorded> LockTable<B> {
         ensures same { SameSeat root.old root.new × (result.table ≡ root.old.table) }
         ensures views { (root.new.view ≡ without W.actor root.old.view) × (result.view ≡ seated W.actor root.old.view) }
     {
-        let mut inner = risen(mem::replace(&mut root.badge, Badge::blank()));
+        let mut inner = taken(&mut root.badge);
         let other = self.table.shared.split_seat::<Cut<W>>(&mut inner);
         root.badge = inner.into_badge();
         TableSeat {
@@ -75,10 +74,8 @@ impl<B: Recorded> LockTable<B> {
         ensures seen { StartsWith root.new.view.seen root.old.view.seen × StartsWith root.new.view.seen seat.view.seen }
     {
         let TableSeat { badge, .. } = seat;
-        let mut inner = risen(mem::replace(&mut root.badge, Badge::blank()));
-        self.table
-            .shared
-            .join_seat::<Glue>(&mut inner, risen(badge));
+        let mut inner = taken(&mut root.badge);
+        self.table.shared.join_seat::<Glue>(&mut inner, risen(badge));
         self.table.shared.load::<Look>(&mut inner, 0);
         root.badge = inner.into_badge();
     }

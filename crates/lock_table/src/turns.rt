@@ -21,6 +21,14 @@ pub(crate) fn risen<B>(badge: Badge<View>) -> Seat<Option<B>, View>
     badge.into_seat()
 }
 
+/// The seat of a badge that is taken out of its place.
+pub(crate) fn taken<B>(badge: &mut Badge<View>) -> Seat<Option<B>, View>
+    requires { badge.old.views ≡ view_in badge.old.views ∷ [] }
+    ensures { (result.table_id ≡ badge.old.table_id) × (result.id ≡ badge.old.id) × (result.me ≡ (view_in badge.old.views, [])) }
+{
+    risen(mem::replace(badge, Badge::blank()))
+}
+
 impl<B: Recorded> LockTable<B> {
     fn enter_as<W: Based<B>>(&self, seat: &mut TableSeat) -> Entered<B>
         requires table { seat.old.table ≡ self.now.table.shared.table_id }
@@ -29,7 +37,7 @@ impl<B: Recorded> LockTable<B> {
         ensures same { SameSeat seat.old seat.new }
         ensures entered { Enters B.entries W.is seat.old.view result seat.new.view }
     {
-        let mut inner = risen(mem::replace(&mut seat.badge, Badge::blank()));
+        let mut inner = taken(&mut seat.badge);
         let found = self
             .table
             .shared
@@ -68,7 +76,7 @@ impl<B: Recorded> LockTable<B> {
         ensures same { SameSeat seat.old seat.new }
         ensures gave { seat.new.view ≡ gave (B.entries turn.board) seat.old.view }
     {
-        let mut inner = risen(mem::replace(&mut seat.badge, Badge::blank()));
+        let mut inner = taken(&mut seat.badge);
         self.table.shared.load::<Lift>(&mut inner, 0);
         let Turn { board } = turn;
         let empty = self.table.shared.exchange(&mut inner, 0, Some(board));
