@@ -12,15 +12,14 @@ ghost use Rattle.lock_table.specs.declared.view.Stage.TheVariants as stage;
 
 use crate::seat::{TableSeat, Turn};
 use crate::table::LockTable;
-use crate::turns::risen;
+use crate::turns::taken;
 use crate::view::View;
 use crate::word_plays::{Exchange, Limits, Load, Raise, Raises, Release, Sweep};
 use crate::words::{Attempt, Bits};
 use acpi_regs::{Event, Recorded};
-use atomic_table::{Badge, Seat};
+use atomic_table::Seat;
 use facs_word::{acquire_of, owned, pending, release_of};
 use std::marker::Brand;
-use std::mem;
 
 /// The place of the Global Lock's word.
 const LOCK: usize = 1;
@@ -59,7 +58,7 @@ impl<B: Recorded> LockTable<B> {
         ensures same { SameSeat seat.old seat.new }
         ensures attempts { Attempts seat.old.view result seat.new.view }
     {
-        let mut inner = risen(mem::replace(&mut seat.badge, Badge::blank()));
+        let mut inner = taken(&mut seat.badge);
         let shared = &self.table.shared;
         let loaded = lock_word(shared.load::<Load>(&mut inner, LOCK));
         let found = lock_word(shared.compare_exchange::<Exchange>(
@@ -85,7 +84,7 @@ impl<B: Recorded> LockTable<B> {
         ensures same { SameSeat seat.old seat.new }
         ensures releases { Releases seat.old.view result seat.new.view }
     {
-        let mut inner = risen(mem::replace(&mut seat.badge, Badge::blank()));
+        let mut inner = taken(&mut seat.badge);
         let found = lock_word(self.table.shared.swap::<Release>(&mut inner, LOCK, 0));
         seat.badge = inner.into_badge();
         seat.signal = pending(found);
@@ -100,7 +99,7 @@ impl<B: Recorded> LockTable<B> {
         ensures pulses { seat.new.view ≡ pulses event result seat.old.view }
     {
         let (word, bit) = pin_of(event);
-        let mut inner = risen(mem::replace(&mut seat.badge, Badge::blank()));
+        let mut inner = taken(&mut seat.badge);
         let found = self
             .table
             .shared
@@ -144,7 +143,7 @@ impl<B: Recorded> LockTable<B> {
         ensures collects { seat.new.view ≡ with_one (holding (words_of result)) seat.old.view }
         ensures fewer { AreFewer W.lists seat.old.view.seen (words_of result) }
     {
-        let mut inner = risen(mem::replace(&mut seat.badge, Badge::blank()));
+        let mut inner = taken(&mut seat.badge);
         let fixed = self.sweep::<W>(&mut inner, 0);
         let first = self.sweep::<W>(&mut inner, 1);
         let second = self.sweep::<W>(&mut inner, 2);

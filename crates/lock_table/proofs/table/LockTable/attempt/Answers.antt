@@ -13,24 +13,24 @@ pub load-requires : goal.load-requires
 load-requires g c =
     let shared = c.args.self.now.table.shared in
     let words = c.args.self.now.sized.0 in
-    let there : c.risen-inner.result.table_id ≡ shared.table_id = cc in
-    let view : c.risen-inner.result.me.0 ≡ c.args.seat.now.view = cc in
+    let there : c.taken-inner.result.table_id ≡ shared.table_id = cc in
+    let view : c.taken-inner.result.me.0 ≡ c.args.seat.now.view = cc in
     let within : 1 < shared.table_id.words = omega arith in
     let seeks = subst (λ (v : View). ForOne IsSeeking v.who) (sym view) c.requires.seeks in
-    (there, within, loads_keep g.B.Base.PulseLists.lists g.B.Recorded.base g.B.Recorded.entries shared.key shared.table_id.slots c.risen-inner.result.id c.risen-inner.result.me seeks)
+    (there, within, loads_keep g.B.Base.PulseLists.lists g.B.Recorded.base g.B.Recorded.entries shared.key shared.table_id.slots c.taken-inner.result.id c.taken-inner.result.me seeks)
 
 pub compare_exchange-requires : goal.compare_exchange-requires
 compare_exchange-requires g c =
     let shared = c.args.self.now.table.shared in
     let words = c.args.self.now.sized.0 in
     let there : c.load.new.seat.table_id ≡ shared.table_id = cc in
-    let view : c.risen-inner.result.me.0 ≡ c.args.seat.now.view = cc in
+    let view : c.taken-inner.result.me.0 ≡ c.args.seat.now.view = cc in
     let within : 1 < shared.table_id.words = omega arith in
     let seeks = subst (λ (v : View). ForOne IsSeeking v.who) (sym view) c.requires.seeks in
     let n = c.load.result in
-    let after : loads n c.risen-inner.result.me.0 ≡ c.load.new.seat.me.0 = cc (c.load.ensures.2.1) in
+    let after : loads n c.taken-inner.result.me.0 ≡ c.load.new.seat.me.0 = cc (c.load.ensures.2.1) in
     let old : n ≡ c.from.result = cc in
-    let loaded = subst (λ l. ForOne (HasLoaded l) c.load.new.seat.me.0.who) old (subst (λ (v : View). ForOne (HasLoaded n) v.who) after (has_loaded n c.risen-inner.result.me.0 seeks)) in
+    let loaded = subst (λ l. ForOne (HasLoaded l) c.load.new.seat.me.0.who) old (subst (λ (v : View). ForOne (HasLoaded n) v.who) after (has_loaded n c.taken-inner.result.me.0 seeks)) in
     let new : c.from-2.result ≡ acquired c.from.result = cc in
     (there, within, exchanges_keep g.B.Base.PulseLists.lists g.B.Recorded.base g.B.Recorded.entries shared.key shared.table_id.slots c.load.new.seat.id c.from.result c.from-2.result c.load.new.seat.me new loaded)
 
@@ -40,7 +40,7 @@ returns-clause-attempts g c =
     let w = view_in c.into_badge.result.views in
     let l = c.lock_word-loaded.result in
     let n = c.lock_word-found.result in
-    let start : c.risen-inner.result.me.0 ≡ v = cc in
+    let start : c.taken-inner.result.me.0 ≡ v = cc in
     let first : c.load.new.seat.me.0 ≡ loads l v = cc (c.load.ensures.2.1, start) in
     let second : c.compare_exchange.new.seat.me.0 ≡ tries l n c.load.new.seat.me.0 = cc (c.compare_exchange.ensures.2.1) in
     let is : w ≡ tries l n (loads l v) = ap view_in c.into_badge.ensures.2 ∙ second ∙ ap (tries l n) first in

@@ -11,8 +11,8 @@ fetch_or-found-requires g c =
     let shared = c.args.self.now.table.shared in
     let words = c.args.self.now.sized.0 in
     let small = c.pin_of-word.ensures.small.0 in
-    let there : c.risen-inner.result.table_id ≡ shared.table_id = cc in
-    let view : c.risen-inner.result.me.0 ≡ c.args.seat.now.view = cc in
+    let there : c.taken-inner.result.table_id ≡ shared.table_id = cc in
+    let view : c.taken-inner.result.me.0 ≡ c.args.seat.now.view = cc in
     let within : c.pin_of-word.result.0 < shared.table_id.words = omega arith in
     let lists = g.B.Base.PulseLists.lists (g.B.Recorded.base shared.key) in
     let e = g.W.Raises.event in
@@ -21,4 +21,4 @@ fetch_or-found-requires g c =
     let known = subst (λ n. event_rank n < all_events) same c.pin_of-word.ensures.known in
     let place : c.pin_of-word.result.0 ≡ word_of e + 2 = c.pin_of-word.ensures.word ∙ ap (λ n. word_of n + 2) same in
     let mask : 1 * 2 ^ c.pin_of-word.result.1 % 2 ^ 64 ≡ 1 * 2 ^ bit_of e % 2 ^ 64 = ap (λ b. 1 * 2 ^ b % 2 ^ 64) (c.pin_of-word.ensures.bit ∙ ap bit_of same) in
-    (there, within, pulses_keep g.B.Base.PulseLists.lists g.B.Recorded.base g.B.Recorded.entries shared.key shared.table_id.slots c.risen-inner.result.id c.pin_of-word.result.0 (1 * 2 ^ c.pin_of-word.result.1 % 2 ^ 64) e c.risen-inner.result.me place mask known next)
+    (there, within, pulses_keep g.B.Base.PulseLists.lists g.B.Recorded.base g.B.Recorded.entries shared.key shared.table_id.slots c.taken-inner.result.id c.pin_of-word.result.0 (1 * 2 ^ c.pin_of-word.result.1 % 2 ^ 64) e c.taken-inner.result.me place mask known next)
