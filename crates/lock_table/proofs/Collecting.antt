@@ -116,7 +116,7 @@ module _ {B X : Type 0} (lists : X → List (List Event)) (base : B → X) (entr
               let fit = h.fits (h.seat_of b) o.view o.there in
               let away = away_of o.view.stage (λ out. other ((fit.holds out).holds ∙ sym ((h.fits id v at).holds inside).holds)) in
               let found = of_found (λ x. Sits h.core h.seat_of (h.seat_of b) x × NotHolding x) b (parts_in o.view.who)
-                (both (Sits h.core h.seat_of (h.seat_of b)) NotHolding (parts_in o.view.who) fit.sits (unheld o.view.stage o.view.who away fit.free)) o.part in
+              (both (Sits h.core h.seat_of (h.seat_of b)) NotHolding (parts_in o.view.who) fit.sits (unheld o.view.stage o.view.who away fit.free)) o.part in
               ap is_holding (ap h.core.phases (sym found.2) ∙ sym found.1.0.2.0) ∙ found.1.1
 
       by_host : (is_host b ≡ true) ⊎ (is_host b ≡ false) → is_holding (h.core.phases b) ≡ false
@@ -147,22 +147,22 @@ module _ {B X : Type 0} (lists : X → List (List Event)) (base : B → X) (entr
           let was = phase_in lists base entries key s h id x.0 p at one in
           let q = Holding (λ u. has_collected (c.phases p.actor) u || (u == w)) (λ y. in_hand (c.phases p.actor) y || (c.pins y && (word_of y == w))) in
           let collected_is : ◌≡◌ {A = ℕ → Bool} (λ u. nat_lt u (length (hand ++ n ∷ []))) (λ u. has_collected (c.phases p.actor) u || (u == w)) =
-            words_more hand w n (sym len) ∙ (λ j u. (collected_meant p.phase u ∙ ap (λ ph. has_collected ph u) was) j || (u == w)) in
+          words_more hand w n (sym len) ∙ (λ j u. (collected_meant p.phase u ∙ ap (λ ph. has_collected ph u) was) j || (u == w)) in
           let hand_is : ◌≡◌ {A = Event → Bool} (pins_of (hand ++ n ∷ [])) (λ y. in_hand (c.phases p.actor) y || (c.pins y && (word_of y == w))) =
-            hand_more h.pins hand w n (sym len) (found lists base entries key s h i w place)
-            ∙ (λ j y. (hand_meant p.phase y ∙ ap (λ ph. in_hand ph y) was) j || (sym (h.pinned y) j && (word_of y == w))) in
+          hand_more h.pins hand w n (sym len) (found lists base entries key s h i w place)
+          ∙ (λ j y. (hand_meant p.phase y ∙ ap (λ ph. in_hand ph y) was) j || (sym (h.pinned y) j && (word_of y == w))) in
           let unswept : has_collected (c.phases p.actor) w ≡ false = ap (λ ph. has_collected ph w) (sym was) ∙ sym (collected_meant p.phase w) ∙ le-ltb w (length hand) (omega arith) in
           let within : w < length h.pins = let five = h.five in omega arith in
           let words : set s.words i 0 ≡ h.turn ∷ c.word ∷ set h.pins w 0 = ap (λ ws. set ws i 0) h.words ∙ set_past_two h.turn c.word h.pins i w 0 place in
           subst (λ u. Rule (record { words = set s.words i 0; homes = s.homes; views = set s.views id u })) (sym (of_one (sweeping n) x.0 p one))
-            (keeps_one lists base entries key s h id x.0 p at one (kept.Holding (hand ++ n ∷ [])) p.tried p.found (p.swept + 1) q
-              (λ j. Holding (collected_is j) (hand_is j))
-              c.word (set h.pins w 0) (λ y. c.pins y && not (word_of y == w)) (set s.words i 0)
-              (length-set h.pins w 0 ∙ h.five)
-              (λ y. ap (λ b. b && not (word_of y == w)) (h.pinned y) ∙ sym (ap (λ f. f y) (cleared h.pins w within)))
-              (core_known_step L c (Collect p.actor w) tt h.sound (host, others_free s h id x.0 p at one out, unswept))
-              (λ away. absurd (out away))
-              words)
+          (keeps_one lists base entries key s h id x.0 p at one (kept.Holding (hand ++ n ∷ [])) p.tried p.found (p.swept + 1) q
+          (λ j. Holding (collected_is j) (hand_is j))
+          c.word (set h.pins w 0) (λ y. c.pins y && not (word_of y == w)) (set s.words i 0)
+          (length-set h.pins w 0 ∙ h.five)
+          (λ y. ap (λ b. b && not (word_of y == w)) (h.pinned y) ∙ sym (ap (λ f. f y) (cleared h.pins w within)))
+          (core_known_step L c (Collect p.actor w) tt h.sound (host, others_free s h id x.0 p at one out, unswept))
+          (λ away. absurd (out away))
+          words)
 
       fewer : (s : State (Option B) View) (h : Rule s) → get_elem? s.views id ≡ m.some x.0 → (p : Part) → x.0.who ≡ who.One p → is_host p.actor ≡ true
           → (after : Rule (stepped s i 0 id x.1 (collects (get_or s.words i 0) x.0) keeps)) → ForOne (λ r. AreFewer (lists (base key)) x.0.seen (hand_of r.phase)) (collects (get_or s.words i 0) x.0).who
@@ -187,3 +187,8 @@ module _ {B X : Type 0} (lists : X → List (List Event)) (base : B → X) (entr
               let few : latches e (past_in c) + (count_one (c.pins e) + hands c.phases e) ≤ listed_pulses L e = latches_within L c.pins (past_in c) c.phases e after.sound.pinned in
               let here : latches e (reverse x.0.seen) ≡ latches e (past_in c) = ap (λ h. latches e (reverse h)) turn.whole in
               omega arith
+
+  -- the same, where the lists go by another name
+  pub collects_keep_as : (slots id i w : ℕ) (x : Me (Option B) View) (named : List (List Event)) → named ≡ lists (base key) → i ≡ w + 2 → w < 5 → x.0.stage ≡ stage.Inside → ForOne (HasCollected w) x.0.who
+      → Allows Rule slots id x i (λ _. 0) (Swept named (step slots i 0 0 m.none) x)
+  collects_keep_as slots id i w x named are place below inside may = subst (λ L. Allows Rule slots id x i (λ _. 0) (Swept L (step slots i 0 0 m.none) x)) (sym are) (collects_keep slots id i w x place below inside may)

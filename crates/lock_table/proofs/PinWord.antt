@@ -86,20 +86,20 @@ module _ {B X : Type 0} (lists : X → List (List Event)) (base : B → X) (entr
           let is_next : next_pulse L h.core d ≡ Some e = ap (λ ps. slice_get (list_of L d) (length ps)) (sym same_pulses) ∙ next in
           let within : w < length h.pins = let five = h.five in let below = word_small e known in omega arith in
           let words : set s.words i (bit_or n mask) ≡ h.turn ∷ h.core.word ∷ pins =
-            ap (λ ws. set ws i (bit_or (get_or ws i 0) mask)) h.words
-            ∙ ap (λ t. set (h.turn ∷ h.core.word ∷ h.pins) i (bit_or t mask)) (past_two h.turn h.core.word h.pins i w place)
-            ∙ set_past_two h.turn h.core.word h.pins i w (bit_or (get_or h.pins w 0) mask) place in
+          ap (λ ws. set ws i (bit_or (get_or ws i 0) mask)) h.words
+          ∙ ap (λ t. set (h.turn ∷ h.core.word ∷ h.pins) i (bit_or t mask)) (past_two h.turn h.core.word h.pins i w place)
+          ∙ set_past_two h.turn h.core.word h.pins i w (bit_or (get_or h.pins w 0) mask) place in
           subst (λ u. Rule (record { words = set s.words i (bit_or n mask); homes = s.homes; views = set s.views id u })) (sym (of_one (pulsing e clear) x.0 p one))
-            (keeps_one lists base entries key s h id x.0 p at one (kept.Pulsed (pulses_of p.phase ++ record { event = e; clear = clear } ∷ [])) p.tried p.found p.swept q
-              (λ j. Pulsed (same_pulses j ++ record { event = e; clear = not (same_pin j) } ∷ []))
-              h.core.word pins (λ y. h.core.pins y || same_event y e) (set s.words i (bit_or n mask))
-              (length-set h.pins w (bit_or (get_or h.pins w 0) mask) ∙ h.five)
-              (λ y. ap (λ b. b || same_event y e) (h.pinned y) ∙ sym (ap (λ f. f y) (set_in h.pins e w mask refl is_mask within)))
-              (subst (λ a. CoreSound L (record { word = h.core.word; pins = λ y. h.core.pins y || same_event y e; history = h.core.history; phases = put a q h.core.phases })) (sym device)
-                (subst (λ o. CoreSound L (pulsed h.core d o)) is_next
-                  (core_known_step L h.core (Pulses d) (λ y is. subst (λ z. event_rank z < all_events) (same_some e y (sym is_next ∙ is)) known) h.sound (e, is_next))))
-              (λ _. refl)
-              words)
+          (keeps_one lists base entries key s h id x.0 p at one (kept.Pulsed (pulses_of p.phase ++ record { event = e; clear = clear } ∷ [])) p.tried p.found p.swept q
+          (λ j. Pulsed (same_pulses j ++ record { event = e; clear = not (same_pin j) } ∷ []))
+          h.core.word pins (λ y. h.core.pins y || same_event y e) (set s.words i (bit_or n mask))
+          (length-set h.pins w (bit_or (get_or h.pins w 0) mask) ∙ h.five)
+          (λ y. ap (λ b. b || same_event y e) (h.pinned y) ∙ sym (ap (λ f. f y) (set_in h.pins e w mask refl is_mask within)))
+          (subst (λ a. CoreSound L (record { word = h.core.word; pins = λ y. h.core.pins y || same_event y e; history = h.core.history; phases = put a q h.core.phases })) (sym device)
+          (subst (λ o. CoreSound L (pulsed h.core d o)) is_next
+          (core_known_step L h.core (Pulses d) (λ y is. subst (λ z. event_rank z < all_events) (same_some e y (sym is_next ∙ is)) known) h.sound (e, is_next))))
+          (λ _. refl)
+          words)
         where
           same_some : (a b : Event) → Some a ≡ Some b → a ≡ b
           same_some a b e = cc

@@ -4,4 +4,5 @@ pub mod Pins
 pub mod Plays
 pub mod Rule
 pub mod Views
+pub mod WordCalls
 pub mod WordPlays

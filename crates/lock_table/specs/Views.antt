@@ -8,6 +8,7 @@ use Rattle.acpi_regs.specs.declared.actor.Actor.TheVariants as actor
 use Rattle.acpi_regs.specs.declared.entry.Deed.{Deed}
 use Rattle.acpi_regs.specs.declared.entry.Entry.{Entry}
 use Rattle.acpi_regs.specs.declared.event.Event.{Event}
+use Rattle.acpi_regs.specs.declared.phase.LockPhase.{LockPhase}
 use Rattle.acpi_regs.specs.declared.phase.LockPhase.TheVariants as lock
 use Rattle.acpi_regs.specs.declared.phase.Pulse.{Pulse}
 use Rattle.acpi_regs.specs.Actor.{same_actor}
@@ -290,3 +291,13 @@ HasCollected w p = (is_host p.actor ≡ true) × (length (hand_of p.phase) ≡ w
 -- it is int or poll, and has collected nothing
 abbrev pub IsFreeHost : Part → Type 0
 IsFreeHost p = (is_host p.actor ≡ true) × (p.phase ≡ kept.Free)
+
+-- ---- a part after a whole call of its actor
+
+-- an exchange of the lock's word found n, and left this phase
+abbrev pub exchanged : LockPhase → ℕ → Part → Part
+exchanged q n p = record { actor = p.actor; phase = kept.Lock q; mine = p.mine; tried = p.tried + 1; found = n; swept = p.swept }
+
+-- all five pin words are in hand
+abbrev pub holding : List ℕ → Part → Part
+holding hand p = record { actor = p.actor; phase = kept.Holding hand; mine = p.mine; tried = p.tried; found = p.found; swept = p.swept + 5 }

@@ -10,9 +10,11 @@ mod plays;
 mod rule;
 mod seat;
 mod seats;
+mod steps;
 mod table;
 mod turns;
 mod view;
+mod word_plays;
 mod words;
 
 pub use acpi_regs::{PulseLists, Recorded};
