@@ -1,5 +1,5 @@
 -- What an attempt leaves of its seat's view.
-use Rattle.std.proofs.Common.{◌≡◌, ◌≢◌, ◌==◌, cond, ℕ, Bool, true, false, refl, sym, ap, subst, ◌∙◌, None}
+use Rattle.std.proofs.Common.{◌≡◌, ◌≢◌, ◌==◌, cond, ℕ, true, false, refl, sym, ap, ◌∙◌, None}
 use Rattle.std.proofs.lemmas.Bool.{eq-eqb, ne_eqb}
 use Rattle.acpi_regs.specs.declared.phase.LockPhase.{LockPhase}
 use Rattle.acpi_regs.specs.declared.phase.LockPhase.TheVariants as lock

@@ -1,16 +1,14 @@
 -- What a table leaves that is closed with every actor back in the root.
-use Rattle.std.proofs.Common.{◌≡◌, ◌≢◌, ◌⊎◌, inl, inr, ℕ, zero, suc, ◌≤◌, Bool, true, false, ◌==◌, ◌||◌, List, [], ◌∷◌, length, refl, sym, ap, subst, ◌∙◌, IsSome, Option, Some, None, unwrap_or, arith}
+use Rattle.std.proofs.Common.{◌≡◌, ◌≢◌, ◌⊎◌, inl, inr, ℕ, ◌≤◌, true, ◌==◌, ◌||◌, List, [], ◌∷◌, length, refl, sym, ap, subst, ◌∙◌, IsSome, Option, Some, unwrap_or, arith}
 use mathlib.Core.Option as m
 use mathlib.Core.Option.{some-injective}
 use lib.ListN.{get_elem?}
 use Rattle.std.proofs.lemmas.Bool.{cases_eq}
 use Rattle.atomic_table.specs.Table.{Final, Seen, State}
-use Rattle.acpi_regs.specs.declared.actor.Actor.{Actor}
 use Rattle.acpi_regs.specs.declared.entry.Entry.{Entry}
 use Rattle.acpi_regs.specs.declared.event.Event.{Event}
 use Rattle.lock_table.specs.declared.view.Occupant.{Occupant}
 use Rattle.lock_table.specs.declared.view.Occupant.TheVariants as who
-use Rattle.lock_table.specs.declared.view.Part.{Part}
 use Rattle.lock_table.specs.declared.view.Stage.TheVariants as stage
 use Rattle.lock_table.specs.declared.view.View.{View}
 use Rattle.lock_table.specs.Calls.{Leaves}

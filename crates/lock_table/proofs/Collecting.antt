@@ -1,5 +1,5 @@
 -- A collect of a pin word keeps the rule, and tells that its events may be latched.
-use Rattle.std.proofs.Common.{◌≡◌, ◌≢◌, ◌⊎◌, inl, inr, ◌==◌, ◌+◌, ◌<◌, ◌≤◌, ◌||◌, ◌&&◌, not, nat_lt, cond, ℕ, Bool, true, false, List, [], ◌∷◌, ◌++◌, length, get_or, set, reverse, refl, sym, ap, subst, ◌∙◌, arith, Option, Some, None, IsSome, length-set}
+use Rattle.std.proofs.Common.{◌≡◌, ◌≢◌, ◌⊎◌, inl, inr, ◌==◌, ◌+◌, ◌<◌, ◌≤◌, ◌||◌, ◌&&◌, not, nat_lt, cond, ℕ, Bool, true, false, List, [], ◌∷◌, ◌++◌, length, get_or, set, reverse, refl, sym, ap, subst, ◌∙◌, arith, Option, Some, IsSome, length-set}
 use mathlib.Core.Option as m
 use mathlib.Core.Option.{some-injective}
 use lib.ListN.{get_elem?}
@@ -11,13 +11,12 @@ use Rattle.acpi_regs.specs.declared.actor.Actor.TheVariants as actor
 use Rattle.acpi_regs.specs.declared.entry.Entry.{Entry}
 use Rattle.acpi_regs.specs.declared.event.Event.{Event}
 use Rattle.acpi_regs.specs.Actor.{same_actor}
-use Rattle.acpi_regs.specs.Core.{Core}
-use Rattle.acpi_regs.specs.CoreEvents.{Collect, OthersFree, collected, has_collected, in_hand, is_holding, is_host, one as count_one, past_in}
-use Rattle.acpi_regs.specs.CoreSound.{CoreSound, hands, latches, listed_pulses}
+use Rattle.acpi_regs.specs.CoreEvents.{Collect, OthersFree, has_collected, in_hand, is_holding, is_host, one as count_one, past_in}
+use Rattle.acpi_regs.specs.CoreSound.{hands, latches, listed_pulses}
 use Rattle.acpi_regs.specs.Event.{bit_of, word_of}
-use Rattle.acpi_regs.specs.Phases.{Holding, Phase, put}
+use Rattle.acpi_regs.specs.Phases.{Holding, Phase}
 use Rattle.acpi_regs.proofs.Latching.{latches_within}
-use Rattle.acpi_regs.proofs.LockActors.{actor_self, actor_true, put_self}
+use Rattle.acpi_regs.proofs.LockActors.{actor_self, actor_true}
 use Rattle.acpi_regs.proofs.PinSteps.{core_known_step}
 use Rattle.lock_table.specs.declared.view.Occupant.{Occupant}
 use Rattle.lock_table.specs.declared.view.Occupant.TheVariants as who

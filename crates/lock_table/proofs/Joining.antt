@@ -1,30 +1,28 @@
 -- Taking a seat back into the root, and the root's look at what it was told, keep the rule.
-use Rattle.std.proofs.Common.{◌≡◌, ◌≢◌, ◌⊎◌, inl, inr, cond, ℕ, zero, suc, ◌+◌, ◌≤◌, Bool, true, false, List, [], ◌∷◌, ◌++◌, length, get_or, set, refl, sym, ap, subst, ◌∙◌, IsSome, Option, Some, None, nat_le, arith, append-nil, append_assoc, length-append}
+use Rattle.std.proofs.Common.{◌≡◌, ◌≢◌, ◌⊎◌, inl, inr, cond, ℕ, ◌≤◌, Bool, true, false, List, [], ◌∷◌, ◌++◌, length, get_or, set, refl, sym, ap, subst, ◌∙◌, IsSome, Option, Some, None, nat_le, arith, append-nil, length-append}
 use mathlib.Core.Option as m
 use mathlib.Core.Option.{some-injective}
 use lib.ListN.{get_elem?}
 use lib.Seq.{set-get_or}
 use Rattle.std.proofs.lemmas.Bool.{cases_eq, leb-false, leb-true}
-use Rattle.atomic_table.specs.Table.{Allows, Joins, State, Step, keeps, step}
+use Rattle.atomic_table.specs.Table.{Allows, Joins, State, keeps, step}
 use Rattle.atomic_table.proofs.Lists.{at_set, set_else}
 use Rattle.acpi_regs.specs.declared.actor.Actor.{Actor}
 use Rattle.acpi_regs.specs.declared.entry.Entry.{Entry}
 use Rattle.acpi_regs.specs.declared.event.Event.{Event}
 use Rattle.acpi_regs.specs.Actor.{same_actor}
-use Rattle.acpi_regs.specs.Core.{Core}
 use Rattle.acpi_regs.proofs.LockActors.{actor_self, actor_swap, actor_true, by_cases}
-use Rattle.lock_table.specs.declared.view.Occupant.{Occupant}
 use Rattle.lock_table.specs.declared.view.Occupant.TheVariants as who
 use Rattle.lock_table.specs.declared.view.Part.{Part}
 use Rattle.lock_table.specs.declared.view.Stage.TheVariants as stage
 use Rattle.lock_table.specs.declared.view.View.{View}
 use Rattle.lock_table.specs.Plays.{Looked, Mine}
-use Rattle.lock_table.specs.Rule.{Fits, HasTurn, IsOut, IsSeated, IsSomebody, Kept, RootIs, Sits}
-use Rattle.lock_table.specs.Views.{EachPart, HoldsInTurn, NotHolding, StartsWith, find, is_known, learned, longer, more, parts_in, rejoined, spent_view}
+use Rattle.lock_table.specs.Rule.{Fits, IsOut, IsSeated, IsSomebody, Kept, RootIs, Sits}
+use Rattle.lock_table.specs.Views.{EachPart, HoldsInTurn, StartsWith, find, is_known, learned, longer, more, parts_in, rejoined, spent_view}
 use Rattle.lock_table.proofs.OneStep.{set_at}
 use Rattle.lock_table.proofs.PartLists.{each_map}
 use Rattle.lock_table.proofs.Splitting.{moved_to}
-use Rattle.lock_table.proofs.Stepping.{Homes, built, others_same, still_out}
+use Rattle.lock_table.proofs.Stepping.{built, others_same, still_out}
 
 -- ---- of two beginnings of a history the longer begins with both
 
@@ -228,17 +226,17 @@ module _ {B X : Type 0} (lists : X → List (List Event)) (base : B → X) (entr
   looking s k id v at =
       let f = k.fits id v at in
       built lists base entries key s k id v (learned v) at k.turn k.holder k.core s.homes (set s.words 0 (get_or s.words 0 0))
-          (set-get_or s.words 0 0 ∙ k.words) k.pinned k.home (still_out lists base entries key s k id v (learned v) at (λ inside. inside))
-          k.sound (λ a found. found)
-          (λ j u other there. others_same lists base entries key s k id v (learned v) at k.turn k.holder s.homes j u (λ has. has) there)
-          (record {
-            seen = (longer_begins k.core.history v.seen v.told f.seen f.told).0;
-            told = (k.core.history, refl);
-            sits = f.sits;
-            root = f.root;
-            holds = λ inside. let o = f.holds inside in record { out = o.out; holds = o.holds; whole = ap (λ l. longer l v.told) o.whole ∙ longer_whole k.core.history v.told f.told; slot = o.slot; somebody = o.somebody };
-            free = f.free;
-          })
+      (set-get_or s.words 0 0 ∙ k.words) k.pinned k.home (still_out lists base entries key s k id v (learned v) at (λ inside. inside))
+      k.sound (λ a found. found)
+      (λ j u other there. others_same lists base entries key s k id v (learned v) at k.turn k.holder s.homes j u (λ has. has) there)
+      (record {
+        seen = (longer_begins k.core.history v.seen v.told f.seen f.told).0;
+        told = (k.core.history, refl);
+        sits = f.sits;
+        root = f.root;
+        holds = λ inside. let o = f.holds inside in record { out = o.out; holds = o.holds; whole = ap (λ l. longer l v.told) o.whole ∙ longer_whole k.core.history v.told f.told; slot = o.slot; somebody = o.somebody };
+        free = f.free;
+      })
 
   pub looks : (slots id : ℕ) (v : View) (me : Mine B) → me ≡ (v, []) → Allows Rule slots id me 0 (λ n. n) (λ n. Looked (step 0 0 0 0 m.none) me n)
   looks slots id v me at_me = subst (λ x. Allows Rule slots id x 0 (λ n. n) (λ n. Looked (step 0 0 0 0 m.none) x n)) (sym at_me) all

@@ -1,5 +1,5 @@
 -- The steps on the Global Lock's word keep the rule.
-use Rattle.std.proofs.Common.{◌≡◌, ◌==◌, ◌+◌, cond, ℕ, Bool, true, false, List, [], ◌∷◌, get_or, set, refl, sym, ap, subst, ◌∙◌, Option, Some, None}
+use Rattle.std.proofs.Common.{◌≡◌, ◌==◌, ◌+◌, cond, ℕ, Bool, true, false, List, ◌∷◌, get_or, set, refl, sym, ap, subst, ◌∙◌, Option, Some, None}
 use mathlib.Core.Option as m
 use lib.ListN.{get_elem?}
 use prog.Atomic.{either}
@@ -7,21 +7,19 @@ use Rattle.atomic_table.specs.Table.{Allows, Me, State, keeps, step, stepped}
 use Rattle.acpi_regs.specs.declared.actor.Actor.{Actor}
 use Rattle.acpi_regs.specs.declared.entry.Entry.{Entry}
 use Rattle.acpi_regs.specs.declared.event.Event.{Event}
-use Rattle.acpi_regs.specs.declared.phase.LockPhase.{LockPhase}
 use Rattle.acpi_regs.specs.declared.phase.LockPhase.TheVariants as lock
 use Rattle.acpi_regs.specs.Core.{Core}
-use Rattle.acpi_regs.specs.CoreEvents.{Exchange, Load, Release, exchanged, is_holding, loaded, tried}
+use Rattle.acpi_regs.specs.CoreEvents.{Exchange, Load, Release, exchanged, loaded, tried}
 use Rattle.acpi_regs.specs.CoreSound.{CoreSound, is_word}
 use Rattle.acpi_regs.specs.Phases.{Lock, put}
 use Rattle.acpi_regs.proofs.PinSteps.{core_known_step}
 use Rattle.facs_word.specs.Word.{acquired, is_pending}
 use Rattle.lock_table.specs.declared.view.Occupant.TheVariants as who
 use Rattle.lock_table.specs.declared.view.Part.{Part}
-use Rattle.lock_table.specs.declared.view.SeatPhase.{SeatPhase}
 use Rattle.lock_table.specs.declared.view.SeatPhase.TheVariants as kept
 use Rattle.lock_table.specs.declared.view.View.{View}
 use Rattle.lock_table.specs.Rule.{Kept, Sits}
-use Rattle.lock_table.specs.Views.{EachPart, ForOne, HasLoaded, IsQuit, IsSeeking, loading, loads, map_one, parts_in, phase_of, releases, releasing, tries, trying, with_one}
+use Rattle.lock_table.specs.Views.{EachPart, ForOne, HasLoaded, IsQuit, IsSeeking, loading, loads, parts_in, phase_of, releases, releasing, tries, trying}
 use Rattle.lock_table.specs.WordPlays.{Exchanged, Loaded, Released}
 use Rattle.lock_table.proofs.OneStep.{for_one, keeps_one, of_one, own_of, set_at}
 

@@ -1,11 +1,11 @@
 -- A new table keeps the rule: the root has all actors, and the turn.
-use Rattle.std.proofs.Common.{◌≡◌, ℕ, zero, suc, ◌+◌, ◌/◌, ◌==◌, Bool, true, false, List, [], ◌∷◌, length, get_or, map, refl, sym, ap, subst, ◌∙◌, IsSome, Option, Some, None, arith}
+use Rattle.std.proofs.Common.{◌≡◌, ℕ, zero, suc, ◌==◌, true, false, List, [], ◌∷◌, get_or, refl, sym, ap, subst, ◌∙◌, is_some, None, arith}
 use mathlib.Core.Option as m
 use mathlib.Core.Option.{some-injective, some-ne-none}
 use lib.ListN.{get_elem?}
 use Rattle.std.proofs.lemmas.Nat.Bits.{bit_at-zero}
 use Rattle.std.specs.Int.{bit_at}
-use Rattle.atomic_table.specs.Table.{State, opening}
+use Rattle.atomic_table.specs.Table.{opening}
 use Rattle.acpi_regs.specs.declared.actor.Actor.{Actor}
 use Rattle.acpi_regs.specs.declared.actor.Actor.TheVariants as actor
 use Rattle.acpi_regs.specs.declared.entry.Entry.{Entry}
@@ -15,11 +15,10 @@ use Rattle.acpi_regs.specs.Event.{bit_of, word_of}
 use Rattle.acpi_regs.specs.Phases.{first_phase}
 use Rattle.acpi_regs.proofs.PinSteps.{core_first}
 use Rattle.lock_table.specs.declared.view.View.{View}
-use Rattle.lock_table.specs.declared.view.Stage.TheVariants as stage
 use Rattle.lock_table.specs.Pins.{pins_of}
 use Rattle.lock_table.specs.Rule.{Fits, Kept, Sits}
 use Rattle.lock_table.specs.Views.{NotHolding, first_view, fresh, is_known, phase_of}
-use Rattle.lock_table.proofs.PartLists.{all_there, each_fresh}
+use Rattle.lock_table.proofs.PartLists.{all_fresh, each_fresh}
 use Rattle.lock_table.proofs.Splitting.{fresh_free}
 
 abbrev no_pins : List ℕ
@@ -71,7 +70,7 @@ module _ {B X : Type 0} (lists : X → List (List Event)) (base : B → X) (entr
     home = λ home. absurd (omega (arith, home));
     out = λ _. record { out = refl; view = first_view; there = refl; inside = λ e. cc };
     sound = core_first (lists (base key));
-    seated = λ a known. record { view = first_view; there = refl; part = all_there a known };
+    seated = λ a known. record { view = first_view; there = refl; part = ap is_some (all_fresh a known) };
     fits = fits;
   }
     where

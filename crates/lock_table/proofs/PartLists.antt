@@ -1,5 +1,5 @@
 -- Lists of parts: what holds of each, who is found, and who stays.
-use Rattle.std.proofs.Common.{◌≡◌, Bool, true, false, cond, ℕ, zero, suc, ◌<◌, arith, List, [], ◌∷◌, IsSome, Option, Some, None, refl, sym, ap, subst, ◌∙◌, unwrap_or}
+use Rattle.std.proofs.Common.{◌≡◌, Bool, true, false, cond, ℕ, zero, suc, ◌<◌, arith, List, [], ◌∷◌, IsSome, Option, Some, None, refl, ap, subst, ◌∙◌, unwrap_or}
 use Rattle.std.proofs.lemmas.Bool.{ltb-true}
 use Rattle.acpi_regs.specs.declared.actor.Actor.{Actor}
 use Rattle.acpi_regs.specs.declared.actor.Actor.TheVariants as actor
@@ -40,27 +40,72 @@ each_other P Q a f (p ∷ ps) h = by_test (each_other P Q a f ps h.1) (same_acto
     by_test rest false apart = (f p apart h.0, rest)
 
 -- and is found as before
-pub still_there : (a b : Actor) → same_actor a b ≡ false → (ps : List Part) → IsSome (find b ps) → IsSome (find b (remove a ps))
-still_there a b other [] some = some
-still_there a b other (p ∷ ps) some = by_tests (still_there a b other ps) (same_actor a p.actor) (same_actor b p.actor) refl refl some
+pub find_other : (a b : Actor) (ps : List Part) → same_actor a b ≡ false → find b (remove a ps) ≡ find b ps
+find_other a b [] other = refl
+find_other a b (p ∷ ps) other = by_tests (find_other a b ps other) (same_actor a p.actor) (same_actor b p.actor) refl refl
   where
-    by_tests : (IsSome (find b ps) → IsSome (find b (remove a ps))) → (x y : Bool) → same_actor a p.actor ≡ x → same_actor b p.actor ≡ y → IsSome (cond y (Some p) (find b ps)) → IsSome (find b (cond x (remove a ps) (p ∷ remove a ps)))
-    by_tests rest true true gone same it = absurd (both (same_actor a b) (ap (same_actor a) (actor_true b p.actor same) ∙ gone) other)
-      where
-        both : (z : Bool) → z ≡ true → z ≡ false → ⊥
-        both true is isnt = cc
-        both false is isnt = cc
-    by_tests rest true false gone apart it = rest it
-    by_tests rest false true stays same it = subst (λ z. IsSome (cond z (Some p) (find b (remove a ps)))) (sym same) refl
-    by_tests rest false false stays apart it = subst (λ z. IsSome (cond z (Some p) (find b (remove a ps)))) (sym apart) (rest it)
+    both : (z : Bool) → z ≡ true → z ≡ false → ⊥
+    both true is isnt = cc
+    both false is isnt = cc
+
+    by_tests : find b (remove a ps) ≡ find b ps → (x y : Bool) → same_actor a p.actor ≡ x → same_actor b p.actor ≡ y → find b (cond x (remove a ps) (p ∷ remove a ps)) ≡ cond y (Some p) (find b ps)
+    by_tests rest true true gone same = absurd (both (same_actor a b) (ap (same_actor a) (actor_true b p.actor same) ∙ gone) other)
+    by_tests rest true false gone apart = rest
+    by_tests rest false true stays same = ap (λ z. cond z (Some p) (find b (remove a ps))) same
+    by_tests rest false false stays apart = ap (λ z. cond z (Some p) (find b (remove a ps))) apart ∙ rest
 
 -- ---- the first parts
 
 pub each_fresh : (P : Part → Type 0) → ((a : Actor) → is_known a ≡ true → P (fresh a)) → EachPart P fresh_parts
-each_fresh P f = (f actor.Int refl, (f actor.Poll refl, (f actor.Ec refl, (
-  f (actor.Worker 0) refl, (f (actor.Worker 1) refl, (f (actor.Worker 2) refl, (f (actor.Worker 3) refl, (
-  f (actor.Device 0) refl, (f (actor.Device 1) refl, (f (actor.Device 2) refl, (f (actor.Device 3) refl, (f (actor.Device 4) refl, (f (actor.Device 5) refl, (f (actor.Device 6) refl, (f (actor.Device 7) refl, (
-  f (actor.Firmware 0) refl, (f (actor.Firmware 1) refl, (f (actor.Firmware 2) refl, (f (actor.Firmware 3) refl, (f (actor.Firmware 4) refl, (f (actor.Firmware 5) refl, (f (actor.Firmware 6) refl, (f (actor.Firmware 7) refl, tt)))))))))))))))))))))))
+each_fresh P f = (
+  f actor.Int refl,
+  (
+    f actor.Poll refl,
+    (
+      f actor.Ec refl,
+      (
+        f (actor.Worker 0) refl,
+        (
+          f (actor.Worker 1) refl,
+          (
+            f (actor.Worker 2) refl,
+            (
+              f (actor.Worker 3) refl,
+              (
+                f (actor.Device 0) refl,
+                (
+                  f (actor.Device 1) refl,
+                  (
+                    f (actor.Device 2) refl,
+                    (
+                      f (actor.Device 3) refl,
+                      (
+                        f (actor.Device 4) refl,
+                        (
+                          f (actor.Device 5) refl,
+                          (
+                            f (actor.Device 6) refl,
+                            (
+                              f (actor.Device 7) refl,
+                              (
+                                f (actor.Firmware 0) refl,
+                                (f (actor.Firmware 1) refl, (f (actor.Firmware 2) refl, (f (actor.Firmware 3) refl, (f (actor.Firmware 4) refl, (f (actor.Firmware 5) refl, (f (actor.Firmware 6) refl, (f (actor.Firmware 7) refl, tt))))))),
+                              ),
+                            ),
+                          ),
+                        ),
+                      ),
+                    ),
+                  ),
+                ),
+              ),
+            ),
+          ),
+        ),
+      ),
+    ),
+  ),
+)
 
 below_four : (P : ℕ → Type 0) → P 0 → P 1 → P 2 → P 3 → (k : ℕ) → k < 4 → P k
 below_four P p0 p1 p2 p3 zero below = p0
@@ -80,10 +125,10 @@ below_eight P p0 p1 p2 p3 p4 p5 p6 p7 (suc (suc (suc (suc (suc (suc zero)))))) b
 below_eight P p0 p1 p2 p3 p4 p5 p6 p7 (suc (suc (suc (suc (suc (suc (suc zero))))))) below = p7
 below_eight P p0 p1 p2 p3 p4 p5 p6 p7 (suc (suc (suc (suc (suc (suc (suc (suc k)))))))) below = absurd (omega arith)
 
-pub all_there : (a : Actor) → is_known a ≡ true → IsSome (find a fresh_parts)
-all_there actor.Int known = refl
-all_there actor.Poll known = refl
-all_there actor.Ec known = refl
-all_there (actor.Worker k) known = below_four (λ j. IsSome (find (actor.Worker j) fresh_parts)) refl refl refl refl k (ltb-true k 4 known)
-all_there (actor.Device k) known = below_eight (λ j. IsSome (find (actor.Device j) fresh_parts)) refl refl refl refl refl refl refl refl k (ltb-true k 8 known)
-all_there (actor.Firmware k) known = below_eight (λ j. IsSome (find (actor.Firmware j) fresh_parts)) refl refl refl refl refl refl refl refl k (ltb-true k 8 known)
+pub all_fresh : (a : Actor) → is_known a ≡ true → find a fresh_parts ≡ Some (fresh a)
+all_fresh actor.Int known = refl
+all_fresh actor.Poll known = refl
+all_fresh actor.Ec known = refl
+all_fresh (actor.Worker k) known = below_four (λ j. find (actor.Worker j) fresh_parts ≡ Some (fresh (actor.Worker j))) refl refl refl refl k (ltb-true k 4 known)
+all_fresh (actor.Device k) known = below_eight (λ j. find (actor.Device j) fresh_parts ≡ Some (fresh (actor.Device j))) refl refl refl refl refl refl refl refl k (ltb-true k 8 known)
+all_fresh (actor.Firmware k) known = below_eight (λ j. find (actor.Firmware j) fresh_parts ≡ Some (fresh (actor.Firmware j))) refl refl refl refl refl refl refl refl k (ltb-true k 8 known)

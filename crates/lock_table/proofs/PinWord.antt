@@ -1,40 +1,31 @@
 -- A pulse and a collect of a pin word keep the rule.
-use Rattle.std.proofs.Common.{◌≡◌, ◌≢◌, ◌⊎◌, inl, inr, ◌==◌, ◌+◌, ◌*◌, ◌%◌, ◌^◌, ◌<◌, ◌≤◌, ◌||◌, ◌&&◌, not, nat_lt, cond, ℕ, zero, suc, Bool, true, false, List, [], ◌∷◌, ◌++◌, length, get_or, set, bit_or, reverse, refl, sym, ap, subst, ◌∙◌, arith, Option, Some, None, IsSome, slice_get, length-set}
+use Rattle.std.proofs.Common.{◌≡◌, ◌==◌, ◌+◌, ◌*◌, ◌%◌, ◌^◌, ◌<◌, ◌||◌, not, ℕ, suc, List, [], ◌∷◌, ◌++◌, length, get_or, set, bit_or, refl, sym, ap, subst, ◌∙◌, arith, Option, Some, slice_get, length-set}
 use mathlib.Core.Option as m
 use mathlib.Core.Option.{some-injective}
 use lib.ListN.{get_elem?}
-use Rattle.std.proofs.lemmas.Bool.{cases_Bool, cases_eq, le-ltb}
-use Rattle.std.proofs.lemmas.Nat.Bits.{bit_at-zero}
 use Rattle.std.specs.Int.{bit_at}
 use Rattle.atomic_table.specs.Table.{Allows, Me, State, keeps, step, stepped}
-use Rattle.acpi_regs.specs.declared.actor.Actor.{Actor}
 use Rattle.acpi_regs.specs.declared.actor.Actor.TheVariants as actor
 use Rattle.acpi_regs.specs.declared.entry.Entry.{Entry}
 use Rattle.acpi_regs.specs.declared.event.Event.{Event}
 use Rattle.acpi_regs.specs.declared.event.Event.TheVariants as event
-use Rattle.acpi_regs.specs.declared.phase.Pulse.{Pulse}
-use Rattle.acpi_regs.specs.Actor.{same_actor}
-use Rattle.acpi_regs.specs.Core.{Core, all_events}
-use Rattle.acpi_regs.specs.CoreEvents.{Collect, OthersFree, Pulses, collected, has_collected, in_hand, is_holding, is_host, list_of, next_pulse, one, past_in, pulsed, pulses_in}
-use Rattle.acpi_regs.specs.CoreSound.{CoreSound, hands, latches, listed_pulses}
+use Rattle.acpi_regs.specs.Core.{all_events}
+use Rattle.acpi_regs.specs.CoreEvents.{Pulses, list_of, next_pulse, one, pulsed, pulses_in}
+use Rattle.acpi_regs.specs.CoreSound.{CoreSound}
 use Rattle.acpi_regs.specs.Event.{bit_of, event_rank, same_event, word_of}
-use Rattle.acpi_regs.specs.Phases.{Holding, Phase, Pulsed, put}
-use Rattle.acpi_regs.proofs.Latching.{latches_within}
-use Rattle.acpi_regs.proofs.LockActors.{actor_true, put_self}
+use Rattle.acpi_regs.specs.Phases.{Pulsed, put}
 use Rattle.acpi_regs.proofs.PinSteps.{core_known_step}
 use Rattle.lock_table.specs.declared.view.Occupant.TheVariants as who
 use Rattle.lock_table.specs.declared.view.Part.{Part}
 use Rattle.lock_table.specs.declared.view.SeatPhase.{SeatPhase}
 use Rattle.lock_table.specs.declared.view.SeatPhase.TheVariants as kept
-use Rattle.lock_table.specs.declared.view.Stage.TheVariants as stage
 use Rattle.lock_table.specs.declared.view.View.{View}
-use Rattle.lock_table.specs.Pins.{pins_of}
-use Rattle.lock_table.specs.Rule.{Kept, Sits}
-use Rattle.lock_table.specs.Views.{EachPart, ForOne, HasCollected, IsNext, collects, find, hand_of, is_known, parts_in, phase_of, pulses, pulses_of, pulsing, sweeping}
-use Rattle.lock_table.specs.WordPlays.{AreFewer, Raised, Swept}
+use Rattle.lock_table.specs.Rule.{Kept}
+use Rattle.lock_table.specs.Views.{ForOne, IsNext, phase_of, pulses, pulses_of, pulsing}
+use Rattle.lock_table.specs.WordPlays.{Raised}
 use Rattle.lock_table.proofs.LockWord.{phase_in}
 use Rattle.lock_table.proofs.OneStep.{for_one, keeps_one, of_one, own_of, set_at}
-use Rattle.lock_table.proofs.PinWords.{cleared, hand_more, set_in, words_more}
+use Rattle.lock_table.proofs.PinWords.{set_in}
 
 past_two : (a b : ℕ) (l : List ℕ) (i w : ℕ) → i ≡ w + 2 → get_or (a ∷ b ∷ l) i 0 ≡ get_or l w 0
 past_two a b l i w e = let two : i ≡ suc (suc w) = omega arith in ap (λ j. get_or (a ∷ b ∷ l) j 0) two

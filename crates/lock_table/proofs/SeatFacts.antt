@@ -1,5 +1,5 @@
 -- What is known of a seat that is taken out of its badge.
-use Rattle.std.proofs.Common.{◌≡◌, Bool, true, false, ℕ, List, [], ◌∷◌, Option, Some, None, refl, sym, ap, subst, ◌∙◌}
+use Rattle.std.proofs.Common.{◌≡◌, Bool, true, false, List, [], ◌∷◌, Option, Some, None, refl, sym, ap, subst, ◌∙◌}
 use Rattle.atomic_table.specs.declared.badge.Badge.{Badge}
 use Rattle.atomic_table.specs.Table.{rest}
 use Rattle.acpi_regs.specs.declared.actor.Actor.{Actor}
@@ -76,9 +76,9 @@ pub seat_after : (b c : Badge View) (p : Pass) (actor : Option Actor) (signal : 
 seat_after b c p actor signal f w same is h there own into now signalled =
     let back = sym into in
     is_seat c w actor now there own
-        (subst IsSomebody back (still_somebody f same p.view.who (subst (λ (q : Pass). IsSomebody q.view.who) is h.somebody)))
-        (h.named ∙ ap (λ (q : Pass). actor_in q.view.who) is ∙ named_still f same p.view.who ∙ ap actor_in back)
-        (subst (KnowsSignal now) back signalled)
+    (subst IsSomebody back (still_somebody f same p.view.who (subst (λ (q : Pass). IsSomebody q.view.who) is h.somebody)))
+    (h.named ∙ ap (λ (q : Pass). actor_in q.view.who) is ∙ named_still f same p.view.who ∙ ap actor_in back)
+    (subst (KnowsSignal now) back signalled)
 
 -- entries of its actor end what a release found, or leave it
 keeps_signal : (signal : Bool) (deeds : List Deed) (k : SeatPhase) → Signals signal k → Signals signal (let_go (after_deeds deeds k))
@@ -103,7 +103,7 @@ keeps_signal signal (d ∷ deeds) k h = keeps_signal signal deeds (after_deed d 
 pub seat_gave : (b c : Badge View) (p : Pass) (actor : Option Actor) (signal : Bool) (h : List Entry) → pass_of b ≡ p → IsSeat b actor signal → c.views ≡ gave h p.view ∷ [] → IsOwn (gave h p.view) → IsSeat c actor signal
 seat_gave b c p actor signal h is seat there own =
     seat_after b c p actor signal (wrote (new_in h p.view)) (gave h p.view) (λ q. refl) is seat there own refl signal
-        (signal_still signal (wrote (new_in h p.view)) (λ q known. keeps_signal signal (deeds_of (new_in h p.view)) q.phase known) p.view.who (subst (λ (q : Pass). KnowsSignal signal q.view.who) is seat.signalled))
+    (signal_still signal (wrote (new_in h p.view)) (λ q known. keeps_signal signal (deeds_of (new_in h p.view)) q.phase known) p.view.who (subst (λ (q : Pass). KnowsSignal signal q.view.who) is seat.signalled))
 
 -- ---- the seats of a split
 
@@ -139,10 +139,10 @@ signal_less signal a who.Nobody h = tt
 pub seat_without : (b c : Badge View) (p : Pass) (actor : Option Actor) (signal : Bool) (a : Actor) → pass_of b ≡ p → IsSeat b actor signal → c.views ≡ without a p.view ∷ [] → IsSeat c actor signal
 seat_without b c p actor signal a is h there =
     is_seat c (without a p.view) actor signal there
-        (own_less a p.view (subst (λ (q : Pass). IsOwn q.view) is h.own) p.view.who refl)
-        (somebody_less a p.view.who (subst (λ (q : Pass). IsSomebody q.view.who) is h.somebody))
-        (h.named ∙ ap (λ (q : Pass). actor_in q.view.who) is ∙ named_less a p.view.who)
-        (signal_less signal a p.view.who (subst (λ (q : Pass). KnowsSignal signal q.view.who) is h.signalled))
+    (own_less a p.view (subst (λ (q : Pass). IsOwn q.view) is h.own) p.view.who refl)
+    (somebody_less a p.view.who (subst (λ (q : Pass). IsSomebody q.view.who) is h.somebody))
+    (h.named ∙ ap (λ (q : Pass). actor_in q.view.who) is ∙ named_less a p.view.who)
+    (signal_less signal a p.view.who (subst (λ (q : Pass). KnowsSignal signal q.view.who) is h.signalled))
 
 fresh_kind : (a : Actor) → is_kind a (phase_of (fresh a).phase) ≡ true
 fresh_kind actor.Int = refl
@@ -164,8 +164,8 @@ pub seat_fresh : (c : Badge View) (v : View) (a b : Actor) → find a (root_part
 seat_fresh c v a b found same there =
     let one = sym (ap lone found) in
     is_seat c (seated a v) (Some b) false there
-        (record { kinds = subst (λ w. EachPart (λ q. is_kind q.actor (phase_of q.phase) ≡ true) (parts_in w)) one (fresh_kind a, tt); free = subst (HoldsInTurn stage.Away) one (λ _. fresh_free a) })
-        (subst IsSomebody one tt) (ap Some (sym same) ∙ ap actor_in one) (subst (KnowsSignal false) one (fresh_signal a))
+    (record { kinds = subst (λ w. EachPart (λ q. is_kind q.actor (phase_of q.phase) ≡ true) (parts_in w)) one (fresh_kind a, tt); free = subst (HoldsInTurn stage.Away) one (λ _. fresh_free a) })
+    (subst IsSomebody one tt) (ap Some (sym same) ∙ ap actor_in one) (subst (KnowsSignal false) one (fresh_signal a))
 
 -- ---- the root of a join
 
@@ -183,10 +183,10 @@ seat_rejoined b c d r t actor its signal found is h is_other other root one away
     let now : more r.view.who t.view.who ≡ who.Root (one.0 ∷ root.0) = ap (λ o. more o t.view.who) root.1 ∙ ap (more (who.Root root.0)) one.1 in
     let back = sym now in
     is_seat d (learned (rejoined r.view t.view)) actor signal there
-        (record {
-          kinds = subst (λ w. EachPart (λ q. is_kind q.actor (phase_of q.phase) ≡ true) (parts_in w)) back ((subst (λ w. EachPart (λ q. is_kind q.actor (phase_of q.phase) ≡ true) (parts_in w)) one.1 its_own.kinds).0, subst (λ w. EachPart (λ q. is_kind q.actor (phase_of q.phase) ≡ true) (parts_in w)) root.1 own.kinds);
-          free = subst (HoldsInTurn r.view.stage) back (subst (HoldsInTurn t.view.stage) one.1 its_own.free away, subst (HoldsInTurn r.view.stage) root.1 own.free);
-        })
-        (subst IsSomebody back tt)
-        (h.named ∙ ap (λ (q : Pass). actor_in q.view.who) is ∙ ap actor_in root.1 ∙ ap actor_in back)
-        (subst (KnowsSignal signal) back tt)
+    (record {
+      kinds = subst (λ w. EachPart (λ q. is_kind q.actor (phase_of q.phase) ≡ true) (parts_in w)) back ((subst (λ w. EachPart (λ q. is_kind q.actor (phase_of q.phase) ≡ true) (parts_in w)) one.1 its_own.kinds).0, subst (λ w. EachPart (λ q. is_kind q.actor (phase_of q.phase) ≡ true) (parts_in w)) root.1 own.kinds);
+      free = subst (HoldsInTurn r.view.stage) back (subst (HoldsInTurn t.view.stage) one.1 its_own.free away, subst (HoldsInTurn r.view.stage) root.1 own.free);
+    })
+    (subst IsSomebody back tt)
+    (h.named ∙ ap (λ (q : Pass). actor_in q.view.who) is ∙ ap actor_in root.1 ∙ ap actor_in back)
+    (subst (KnowsSignal signal) back tt)

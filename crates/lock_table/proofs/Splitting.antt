@@ -1,5 +1,5 @@
 -- A seat of its own for an actor of the root keeps the rule.
-use Rattle.std.proofs.Common.{◌≡◌, ◌≢◌, ◌⊎◌, inl, inr, cond, ℕ, zero, suc, Bool, true, false, List, [], ◌∷◌, ◌++◌, length, set, refl, sym, ap, subst, ◌∙◌, IsSome, Option, Some, None, length-set}
+use Rattle.std.proofs.Common.{◌≡◌, ◌≢◌, ◌⊎◌, inl, inr, cond, ℕ, zero, suc, true, false, List, [], ◌∷◌, ◌++◌, length, set, refl, sym, ap, subst, ◌∙◌, IsSome, Option, Some, None, length-set}
 use mathlib.Core.Option as m
 use mathlib.Core.Option.{some-injective, some-ne-none}
 use lib.ListN.{get_elem?}
@@ -11,8 +11,6 @@ use Rattle.acpi_regs.specs.declared.actor.Actor.TheVariants as actor
 use Rattle.acpi_regs.specs.declared.entry.Entry.{Entry}
 use Rattle.acpi_regs.specs.declared.event.Event.{Event}
 use Rattle.acpi_regs.specs.Actor.{same_actor}
-use Rattle.acpi_regs.specs.Core.{Core}
-use Rattle.acpi_regs.specs.CoreEvents.{is_holding}
 use Rattle.acpi_regs.proofs.LockActors.{actor_self, actor_true, by_cases}
 use Rattle.lock_table.specs.declared.view.Occupant.{Occupant}
 use Rattle.lock_table.specs.declared.view.Occupant.TheVariants as who
@@ -20,11 +18,10 @@ use Rattle.lock_table.specs.declared.view.Part.{Part}
 use Rattle.lock_table.specs.declared.view.Stage.TheVariants as stage
 use Rattle.lock_table.specs.declared.view.View.{View}
 use Rattle.lock_table.specs.Plays.{Mine}
-use Rattle.lock_table.specs.Rule.{Fits, HasTurn, IsOut, IsSeated, IsSomebody, Kept, RootIs, Sits}
-use Rattle.lock_table.specs.Views.{EachPart, HoldsInTurn, NotHolding, find, fresh, is_known, less, lone, parts_in, phase_of, remove, root_parts, seated, without}
+use Rattle.lock_table.specs.Rule.{Fits, IsOut, IsSeated, IsSomebody, Kept, RootIs, Sits}
+use Rattle.lock_table.specs.Views.{EachPart, HoldsInTurn, NotHolding, find, fresh, is_known, less, lone, parts_in, remove, root_parts, seated, without}
 use Rattle.lock_table.proofs.OneStep.{set_at}
-use Rattle.lock_table.proofs.PartLists.{each_found, each_map, each_other, some_found, still_there}
-use Rattle.lock_table.proofs.Stepping.{Homes}
+use Rattle.lock_table.proofs.PartLists.{each_found, each_map, each_other, find_other}
 
 -- the last of a longer list, or one before it
 at_snoc_here : {A : Type 0} (l : List A) (a b : A) (j : ℕ) → get_elem? (l ++ a ∷ []) j ≡ m.some b → (get_elem? l j ≡ m.some b) ⊎ ((j ≡ length l) × (a ≡ b))
@@ -137,7 +134,7 @@ module _ {B X : Type 0} (lists : X → List (List Event)) (base : B → X) (entr
                 record {
                   view = left;
                   there = ap (get_elem? views) same ∙ at_left;
-                  part = subst (λ w. IsSome (find b (parts_in w))) (sym left_is) (still_there a b apart ps (subst (λ w. IsSome (find b (parts_in w))) (ap (λ (u : View). u.who) is_v ∙ is) o.part));
+                  part = subst (λ w. IsSome (find b (parts_in w))) (sym left_is) (subst (λ (x : Option Part). IsSome x) (sym (find_other a b ps apart)) (subst (λ w. IsSome (find b (parts_in w))) (ap (λ (u : View). u.who) is_v ∙ is) o.part));
                 }
             by_seat o (inr other) = record { view = o.view; there = at_old (k.seat_of b) o.view other o.there; part = o.part }
 

@@ -1,5 +1,5 @@
 -- What every step on the table keeps: the seats that make no step, and what the seat that makes one shows.
-use Rattle.std.proofs.Common.{◌≡◌, ◌≢◌, ◌⊎◌, inl, inr, cond, ℕ, zero, suc, Bool, true, false, List, [], ◌∷◌, length, set, refl, sym, ap, subst, ◌∙◌, IsSome, Option, Some, None}
+use Rattle.std.proofs.Common.{◌≡◌, ◌≢◌, ◌⊎◌, inl, inr, cond, ℕ, Bool, true, false, List, ◌∷◌, set, refl, sym, ap, subst, ◌∙◌, IsSome, Option, Some, None}
 use mathlib.Core.Option as m
 use mathlib.Core.Option.{some-injective}
 use lib.ListN.{get_elem?}
@@ -11,7 +11,7 @@ use Rattle.acpi_regs.specs.declared.entry.Entry.{Entry}
 use Rattle.acpi_regs.specs.declared.event.Event.{Event}
 use Rattle.acpi_regs.specs.Actor.{same_actor}
 use Rattle.acpi_regs.specs.Core.{Core}
-use Rattle.acpi_regs.specs.CoreSound.{AreOfKind, CoreSound, is_kind}
+use Rattle.acpi_regs.specs.CoreSound.{CoreSound}
 use Rattle.lock_table.specs.declared.view.Occupant.{Occupant}
 use Rattle.lock_table.specs.declared.view.Occupant.TheVariants as who
 use Rattle.lock_table.specs.declared.view.Part.{Part}
@@ -19,7 +19,7 @@ use Rattle.lock_table.specs.declared.view.Stage.TheVariants as stage
 use Rattle.lock_table.specs.declared.view.View.{View}
 use Rattle.lock_table.specs.Pins.{pins_of}
 use Rattle.lock_table.specs.Rule.{Fits, HasTurn, IsHome, IsOut, IsSeated, IsSomebody, Kept, RootIs, Sits}
-use Rattle.lock_table.specs.Views.{EachPart, HoldsInTurn, IsOwn, find, is_known, map_one, parts_in, phase_of}
+use Rattle.lock_table.specs.Views.{EachPart, find, map_one, parts_in}
 use Rattle.lock_table.proofs.OneStep.{set_at}
 
 abbrev pub Homes : Type 0 → Type 0

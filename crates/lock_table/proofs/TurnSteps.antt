@@ -1,12 +1,11 @@
 -- Taking the turn and giving it back keep the rule.
-use Rattle.std.proofs.Common.{◌≡◌, ◌≢◌, ◌⊎◌, inl, inr, ℕ, eqb, zero, suc, ◌+◌, ◌==◌, Bool, true, false, List, [], ◌∷◌, ◌++◌, map, reverse, length, get_or, set, refl, sym, ap, subst, ◌∙◌, IsSome, Option, Some, None, unwrap_or, arith}
+use Rattle.std.proofs.Common.{◌≡◌, ◌≢◌, ℕ, ◌==◌, false, List, [], ◌∷◌, ◌++◌, map, reverse, get_or, set, refl, sym, ap, subst, ◌∙◌, Option, Some, None, unwrap_or, arith}
 use mathlib.Core.Option as m
 use lib.ListN.{get_elem?}
 use lib.Seq.{set-get_or}
 use prog.Atomic.{either}
-use Rattle.atomic_table.specs.Table.{Act, Allows, State, Step, Valid, rest, step, carried_after, gives, homes_after, keeps, stepped, takes}
+use Rattle.atomic_table.specs.Table.{Act, Allows, State, Step, Valid, step, carried_after, gives, homes_after, keeps, stepped, takes}
 use Rattle.atomic_table.proofs.Lists.{exchanged}
-use Rattle.acpi_regs.specs.declared.actor.Actor.{Actor}
 use Rattle.acpi_regs.specs.declared.entry.Deed.{Deed}
 use Rattle.acpi_regs.specs.declared.entry.Entry.{Entry}
 use Rattle.acpi_regs.specs.declared.event.Event.{Event}
@@ -23,8 +22,8 @@ use Rattle.lock_table.specs.declared.view.Stage.{Stage}
 use Rattle.lock_table.specs.declared.view.Stage.TheVariants as stage
 use Rattle.lock_table.specs.declared.view.View.{View}
 use Rattle.lock_table.specs.Plays.{Given, Lifted, Mine, PutIn, Taken}
-use Rattle.lock_table.specs.Rule.{Fits, HasTurn, IsHome, IsOut, IsSomebody, Kept, RootIs, Sits, slot_at}
-use Rattle.lock_table.specs.Views.{EachPart, HoldsInTurn, IsOwn, MayAdd, NotHolding, StartsWith, after_deeds, deeds_of, gave, let_go, map_one, missed, new_in, noted, parts_in, phase_of, staged, took, wrote}
+use Rattle.lock_table.specs.Rule.{HasTurn, IsHome, IsSomebody, Kept, Sits, slot_at}
+use Rattle.lock_table.specs.Views.{EachPart, HoldsInTurn, MayAdd, StartsWith, after_deeds, deeds_of, gave, let_go, map_one, missed, new_in, noted, parts_in, phase_of, staged, took, wrote}
 use Rattle.lock_table.proofs.Histories.{deeds_back, lets_go, means_moved, new_behind, of_more, of_others, starts_further, starts_itself}
 use Rattle.lock_table.proofs.OneStep.{own_of, set_at}
 use Rattle.lock_table.proofs.Stepping.{Homes, built, others_same, still_found, still_out, still_root, still_sits, still_somebody}
@@ -74,18 +73,18 @@ module _ {B X : Type 0} (lists : X → List (List Event)) (base : B → X) (entr
         let w = took (entries h.board) v in
         let f = k.fits id v at in
         built lists base entries key s k id v w at 1 id k.core (homes_after s.homes [] (takes 0 (Some h.board))) (set s.words 0 1)
-            (first_set s k 1) k.pinned (λ zero. absurd (omega arith))
-            (λ _. record { out = refl; view = w; there = set_at s.views id v w at; inside = holding_away })
-            k.sound (still_found (noted 0) (λ p. refl) v.who)
-            (λ j u other there. others_same lists base entries key s k id v w at 1 id _ j u (λ has. absurd (let out = has.out in omega (arith, out, home))) there)
-            (record {
-              seen = subst (λ l. StartsWith k.core.history l) (sym h.has) (starts_itself k.core.history);
-              told = f.told;
-              sits = noted_sits 0;
-              root = still_root (noted 0) (λ p. refl) id v.who f.root;
-              holds = λ inside. record { out = refl; holds = refl; whole = h.has; slot = ap (λ l. set l 0 m.none) h.slot; somebody = still_somebody (noted 0) (λ p. refl) v.who somebody };
-              free = still_free stage.Holding (noted 0) (λ p. refl) v.stage (λ e. absurd (holding_away e)) v.who f.free;
-            })
+        (first_set s k 1) k.pinned (λ zero. absurd (omega arith))
+        (λ _. record { out = refl; view = w; there = set_at s.views id v w at; inside = holding_away })
+        k.sound (still_found (noted 0) (λ p. refl) v.who)
+        (λ j u other there. others_same lists base entries key s k id v w at 1 id _ j u (λ has. absurd (let out = has.out in omega (arith, out, home))) there)
+        (record {
+          seen = subst (λ l. StartsWith k.core.history l) (sym h.has) (starts_itself k.core.history);
+          told = f.told;
+          sits = noted_sits 0;
+          root = still_root (noted 0) (λ p. refl) id v.who f.root;
+          holds = λ inside. record { out = refl; holds = refl; whole = h.has; slot = ap (λ l. set l 0 m.none) h.slot; somebody = still_somebody (noted 0) (λ p. refl) v.who somebody };
+          free = still_free stage.Holding (noted 0) (λ p. refl) v.stage (λ e. absurd (holding_away e)) v.who f.free;
+        })
 
     missing : k.turn ≢ 0 → Rule (stepped s 0 (get_or s.words 0 0) id [] (missed (get_or s.words 0 0) v) keeps)
     missing out =
@@ -93,17 +92,17 @@ module _ {B X : Type 0} (lists : X → List (List Event)) (base : B → X) (entr
         let w = missed n v in
         let f = k.fits id v at in
         built lists base entries key s k id v w at k.turn k.holder k.core s.homes (set s.words 0 n)
-            (set-get_or s.words 0 0 ∙ k.words) k.pinned k.home (still_out lists base entries key s k id v w at (λ i. i))
-            k.sound (still_found (noted n) (λ p. refl) v.who)
-            (λ j u other there. others_same lists base entries key s k id v w at k.turn k.holder s.homes j u (λ has. has) there)
-            (record {
-              seen = f.seen;
-              told = f.told;
-              sits = noted_sits n;
-              root = still_root (noted n) (λ p. refl) id v.who f.root;
-              holds = λ inside. let o = f.holds inside in record { out = o.out; holds = o.holds; whole = o.whole; slot = o.slot; somebody = still_somebody (noted n) (λ p. refl) v.who o.somebody };
-              free = still_free v.stage (noted n) (λ p. refl) v.stage (λ e. e) v.who f.free;
-            })
+        (set-get_or s.words 0 0 ∙ k.words) k.pinned k.home (still_out lists base entries key s k id v w at (λ i. i))
+        k.sound (still_found (noted n) (λ p. refl) v.who)
+        (λ j u other there. others_same lists base entries key s k id v w at k.turn k.holder s.homes j u (λ has. has) there)
+        (record {
+          seen = f.seen;
+          told = f.told;
+          sits = noted_sits n;
+          root = still_root (noted n) (λ p. refl) id v.who f.root;
+          holds = λ inside. let o = f.holds inside in record { out = o.out; holds = o.holds; whole = o.whole; slot = o.slot; somebody = still_somebody (noted n) (λ p. refl) v.who o.somebody };
+          free = still_free v.stage (noted n) (λ p. refl) v.stage (λ e. e) v.who f.free;
+        })
 
   pub takes_turn : (slots id : ℕ) (v : View) (is : B → Type 0) (me : Mine B) → me ≡ (v, []) → v.stage ≡ stage.Away → IsSomebody v.who → ((b : B) → base b ≡ base key → is b)
       → Allows Rule slots id me 0 (λ n. either (n == 0) 1 n) (λ n. Taken entries is no_step me n)
@@ -118,9 +117,13 @@ module _ {B X : Type 0} (lists : X → List (List Event)) (base : B → X) (entr
           hit : get_or s.words 0 0 ≡ 0 → Goal 1
           hit e =
               let home : k.turn ≡ 0 = sym (turn_is s k) ∙ e in
-              let h = k.home home in
-              (took (entries h.board) v, takes 0 (Some h.board), ap (λ l. get_elem? l 0) h.slot, taking s k id v at home away somebody h,
-              ((λ _. (h.board, based h.board h.same_base, subst (λ l. StartsWith l v.seen) (sym h.has) (k.fits id v at).seen, refl)), (λ out. absurd (out e))))
+              let h = k.home home in (
+                took (entries h.board) v,
+                takes 0 (Some h.board),
+                ap (λ l. get_elem? l 0) h.slot,
+                taking s k id v at home away somebody h,
+                ((λ _. (h.board, based h.board h.same_base, subst (λ l. StartsWith l v.seen) (sym h.has) (k.fits id v at).seen, refl)), (λ out. absurd (out e))),
+              )
 
           miss : get_or s.words 0 0 ≢ 0 → Goal (get_or s.words 0 0)
           miss ne =
@@ -135,18 +138,18 @@ module _ {B X : Type 0} (lists : X → List (List Event)) (base : B → X) (entr
       let f = k.fits id v at in
       let one = has.out in
       built lists base entries key s k id v (staged g v) at k.turn k.holder k.core homes (set s.words 0 (get_or s.words 0 0))
-          (set-get_or s.words 0 0 ∙ k.words) k.pinned (λ zero. absurd (omega (arith, zero, one)))
-          (still_out lists base entries key s k id v (staged g v) at (λ _. out))
-          k.sound (λ a found. found)
-          (λ j u other there. others_same lists base entries key s k id v (staged g v) at k.turn k.holder homes j u (λ its. absurd (other (its.holds ∙ sym has.holds))) there)
-          (record {
-            seen = f.seen;
-            told = f.told;
-            sits = f.sits;
-            root = f.root;
-            holds = λ _. record { out = has.out; holds = has.holds; whole = has.whole; slot = slot; somebody = has.somebody };
-            free = held v.who f.free;
-          })
+      (set-get_or s.words 0 0 ∙ k.words) k.pinned (λ zero. absurd (omega (arith, zero, one)))
+      (still_out lists base entries key s k id v (staged g v) at (λ _. out))
+      k.sound (λ a found. found)
+      (λ j u other there. others_same lists base entries key s k id v (staged g v) at k.turn k.holder homes j u (λ its. absurd (other (its.holds ∙ sym has.holds))) there)
+      (record {
+        seen = f.seen;
+        told = f.told;
+        sits = f.sits;
+        root = f.root;
+        holds = λ _. record { out = has.out; holds = has.holds; whole = has.whole; slot = slot; somebody = has.somebody };
+        free = held v.who f.free;
+      })
     where
       held : (w : Occupant) → HoldsInTurn v.stage w → HoldsInTurn g w
       held (who.Root ps) free = free
@@ -184,25 +187,25 @@ module _ {B X : Type 0} (lists : X → List (List Event)) (base : B → X) (entr
         let f = k.fits id v at in
         let new = new_in (entries b) v in
         built lists base entries key s k id v (gave (entries b) v) at 0 k.holder core homes (set s.words 0 0)
-            (first_set s k 0 ∙ ap (λ n. 0 ∷ n ∷ k.pins) (sym word)) (λ n. pins n ∙ k.pinned n)
-            (λ _. record { board = b; slot = slot; same_base = same_base; has = sym history }) (λ out. absurd (out refl))
-            sound (still_found (wrote new) (λ p. refl) v.who)
-            (λ j u other there. let o = k.fits j u there in record {
-              seen = further u.seen o.seen;
-              told = further u.told o.told;
-              sits = others j u other there o.sits;
-              root = o.root;
-              holds = λ inside. absurd (other ((o.holds inside).holds ∙ sym has.holds));
-              free = o.free;
-            })
-            (record {
-              seen = subst (λ l. StartsWith l (entries b)) (sym history) (starts_itself (entries b));
-              told = further v.told f.told;
-              sits = mine;
-              root = still_root (wrote new) (λ p. refl) id v.who f.root;
-              holds = λ inside. absurd (inside refl);
-              free = free;
-            })
+        (first_set s k 0 ∙ ap (λ n. 0 ∷ n ∷ k.pins) (sym word)) (λ n. pins n ∙ k.pinned n)
+        (λ _. record { board = b; slot = slot; same_base = same_base; has = sym history }) (λ out. absurd (out refl))
+        sound (still_found (wrote new) (λ p. refl) v.who)
+        (λ j u other there. let o = k.fits j u there in record {
+          seen = further u.seen o.seen;
+          told = further u.told o.told;
+          sits = others j u other there o.sits;
+          root = o.root;
+          holds = λ inside. absurd (other ((o.holds inside).holds ∙ sym has.holds));
+          free = o.free;
+        })
+        (record {
+          seen = subst (λ l. StartsWith l (entries b)) (sym history) (starts_itself (entries b));
+          told = further v.told f.told;
+          sits = mine;
+          root = still_root (wrote new) (λ p. refl) id v.who f.root;
+          holds = λ inside. absurd (inside refl);
+          free = free;
+        })
 
     -- the root's turn, or that of one actor
     giving_root : (ps : List Part) → v.who ≡ who.Root ps → entries b ≡ v.seen → Rule (record { words = set s.words 0 0; homes = homes; views = set s.views id (gave (entries b) v) })
@@ -210,8 +213,8 @@ module _ {B X : Type 0} (lists : X → List (List Event)) (base : B → X) (entr
         let f = k.fits id v at in
         let still : map_one (wrote (new_in (entries b) v)) v.who ≡ v.who = ap (map_one (wrote (new_in (entries b) v))) is ∙ sym is in
         giving k.core refl (λ n. refl) (sym has.whole ∙ sym same) k.sound (λ j u _ _ sits. sits) (λ first starts. starts)
-            (subst (λ w. EachPart (Sits k.core k.seat_of id) (parts_in w)) (sym still) f.sits)
-            (subst (HoldsInTurn stage.Away) (sym (still ∙ is)) (subst (HoldsInTurn v.stage) is f.free))
+        (subst (λ w. EachPart (Sits k.core k.seat_of id) (parts_in w)) (sym still) f.sits)
+        (subst (HoldsInTurn stage.Away) (sym (still ∙ is)) (subst (HoldsInTurn v.stage) is f.free))
 
     module _ (p : Part) (is : v.who ≡ who.One p) (deeds : List Deed) (adds : entries b ≡ v.seen ++ map (entry p.actor) deeds) where
       sits_here : Sits k.core k.seat_of id p
@@ -225,29 +228,34 @@ module _ {B X : Type 0} (lists : X → List (List Event)) (base : B → X) (entr
 
       elsewhere : (j : ℕ) → j ≢ id → (ps : List Part) → EachPart (Sits k.core k.seat_of j) ps → EachPart (Sits after k.seat_of j) ps
       elsewhere j other [] h = tt
-      elsewhere j other (q ∷ ps) h = (by_cases (same_actor p.actor q.actor) (Sits after k.seat_of j q) (λ same. absurd (other (sym h.0.1 ∙ ap k.seat_of (sym (actor_true p.actor q.actor same)) ∙ sits_here.1)))
-          (λ apart. (h.0.0, h.0.1, (h.0.2.0 ∙ sym (put_other p.actor q.actor _ k.core.phases apart), h.0.2.1 ∙ sym (of_others k.core.history p.actor q.actor deeds (actor_swap p.actor q.actor apart))))), elsewhere j other ps h.1)
+      elsewhere j other (q ∷ ps) h = (
+        by_cases (same_actor p.actor q.actor) (Sits after k.seat_of j q) (λ same. absurd (other (sym h.0.1 ∙ ap k.seat_of (sym (actor_true p.actor q.actor same)) ∙ sits_here.1)))
+            (λ apart. (h.0.0, h.0.1, (h.0.2.0 ∙ sym (put_other p.actor q.actor _ k.core.phases apart), h.0.2.1 ∙ sym (of_others k.core.history p.actor q.actor deeds (actor_swap p.actor q.actor apart))))),
+        elsewhere j other ps h.1,
+      )
 
       here : Sits after k.seat_of id (wrote (new_in (entries b) v) p)
       here = (
         sits_here.0,
         sits_here.1,
-        (ap (λ l. phase_of (let_go (after_deeds (deeds_of l) p.phase))) new_are
-        ∙ ap (λ ds. phase_of (let_go (after_deeds ds p.phase))) (deeds_back p.actor deeds)
-        ∙ means_moved deeds p.phase
-        ∙ ap (λ q. freed (moved_all deeds q)) sits_here.2.0
-        ∙ sym (put_self p.actor (freed (moved_all deeds (k.core.phases p.actor))) k.core.phases),
-        ap (λ l. p.mine ++ l) new_are ∙ ap (λ l. l ++ map (entry p.actor) deeds) sits_here.2.1 ∙ sym (of_more k.core.history p.actor deeds)),
+        (
+          ap (λ l. phase_of (let_go (after_deeds (deeds_of l) p.phase))) new_are
+              ∙ ap (λ ds. phase_of (let_go (after_deeds ds p.phase))) (deeds_back p.actor deeds)
+              ∙ means_moved deeds p.phase
+              ∙ ap (λ q. freed (moved_all deeds q)) sits_here.2.0
+              ∙ sym (put_self p.actor (freed (moved_all deeds (k.core.phases p.actor))) k.core.phases),
+          ap (λ l. p.mine ++ l) new_are ∙ ap (λ l. l ++ map (entry p.actor) deeds) sits_here.2.1 ∙ sym (of_more k.core.history p.actor deeds),
+        ),
       )
 
       giving_one : IsTurn (phase_of p.phase) (reverse v.seen) p.actor deeds → Rule (record { words = set s.words 0 0; homes = homes; views = set s.views id (gave (entries b) v) })
       giving_one turn =
           let now : map_one (wrote (new_in (entries b) v)) v.who ≡ who.One (wrote (new_in (entries b) v) p) = ap (map_one (wrote (new_in (entries b) v))) is in
           giving after refl (λ n. refl) (ap (λ l. l ++ map (entry p.actor) deeds) (sym has.whole) ∙ sym adds)
-              (core_turn (lists (base key)) k.core p.actor deeds k.sound (subst (λ q. IsTurn q (past_in k.core) p.actor deeds) sits_here.2.0 (subst (λ l. IsTurn (phase_of p.phase) (reverse l) p.actor deeds) has.whole turn)))
-              (λ j u other there sits. elsewhere j other (parts_in u.who) sits) (λ first starts. starts_further k.core.history first (map (entry p.actor) deeds) starts)
-              (subst (λ w. EachPart (Sits after k.seat_of id) (parts_in w)) (sym now) (here, tt))
-              (subst (HoldsInTurn stage.Away) (sym now) (λ _. lets_go _))
+          (core_turn (lists (base key)) k.core p.actor deeds k.sound (subst (λ q. IsTurn q (past_in k.core) p.actor deeds) sits_here.2.0 (subst (λ l. IsTurn (phase_of p.phase) (reverse l) p.actor deeds) has.whole turn)))
+          (λ j u other there sits. elsewhere j other (parts_in u.who) sits) (λ first starts. starts_further k.core.history first (map (entry p.actor) deeds) starts)
+          (subst (λ w. EachPart (Sits after k.seat_of id) (parts_in w)) (sym now) (here, tt))
+          (subst (HoldsInTurn stage.Away) (sym now) (λ _. lets_go _))
 
   -- the board in the slot that a seat holds
   board_in : B → List (ℕ × Option B) → B

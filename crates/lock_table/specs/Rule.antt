@@ -2,7 +2,7 @@
 --
 -- Word 0 is 0 where the turn is home and 1 where it is out. Word 1 is the Global Lock's, and five pin words follow. The slot has
 -- the board while the turn is home.
-use Rattle.std.specs.Prelude.{ℕ, ◌≡◌, ◌≢◌, true, false, List, [], ◌∷◌, length, Option, Some, None, IsSome}
+use Rattle.std.specs.Prelude.{ℕ, ◌≡◌, ◌≢◌, true, List, [], ◌∷◌, length, Option, Some, None, IsSome}
 use mathlib.Core.Option as m
 use lib.ListN.{get_elem?}
 use Rattle.atomic_table.specs.Table.{State}

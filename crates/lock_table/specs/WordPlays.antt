@@ -1,6 +1,6 @@
 -- What each step on the Global Lock's word and on a pin word tells its seat: the view before and after, with the slots that the
 -- seat holds.
-use Rattle.std.specs.Prelude.{ℕ, ◌≡◌, ◌<◌, ◌==◌, not, Bool, true, List, reverse, Option}
+use Rattle.std.specs.Prelude.{ℕ, ◌≡◌, ◌<◌, ◌==◌, not, true, List, reverse, Option}
 use Rattle.std.specs.Int.{bit_at}
 use Rattle.atomic_table.specs.Table.{Me, Step}
 use Rattle.acpi_regs.specs.declared.entry.Entry.{Entry}

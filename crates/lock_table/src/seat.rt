@@ -1,3 +1,5 @@
+ghost use Rattle.lock_table.specs.Views.{IsOwn};
+
 use crate::view::View;
 use acpi_regs::Actor;
 use atomic_table::Badge;
@@ -37,4 +39,13 @@ pub enum Entered<B> {
     Turn(Turn<B>),
     /// Another seat has it.
     Out,
+}
+
+impl TableSeat {
+    /// What holds of every seat: the phase of each actor is of its kind, and no pins are held without the turn.
+    pub fn law_own(&self)
+        ensures { IsOwn self.now.view }
+    {
+        let _badge = &self.badge;
+    }
 }

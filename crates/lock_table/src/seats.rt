@@ -75,7 +75,9 @@ impl<B: Recorded> LockTable<B> {
     {
         let TableSeat { badge, .. } = seat;
         let mut inner = taken(&mut root.badge);
-        self.table.shared.join_seat::<Glue>(&mut inner, risen(badge));
+        self.table
+            .shared
+            .join_seat::<Glue>(&mut inner, risen(badge));
         self.table.shared.load::<Look>(&mut inner, 0);
         root.badge = inner.into_badge();
     }

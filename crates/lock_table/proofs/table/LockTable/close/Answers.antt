@@ -16,12 +16,12 @@ returns g c =
     let h = closes_here _ _ _ _ _ _ _ c.args.root.view _ (seat_me c.root.inside.badge _ _ c.risen.ensures.2 c.root.view_is) c.requires.root.0 c.requires.root.1 c.requires.joined c.close_with-closed.ensures.values.2 in
     let same = c.take.ensures.others.3 in
     leaves_there _ _ _ _ _ _ _ h c.take.result c.in-Some.board c.take.ensures.value c.in-Some.is _ _ _ _ _ _
-        (ap (λ w. get_elem? (slots_items w) 1) (sym same) ∙ c.word-facs.ensures)
-        (ap (λ w. get_elem? (slots_items w) 2) (sym same) ∙ c.word-fixed.ensures)
-        (ap (λ w. get_elem? (slots_items w) 3) (sym same) ∙ c.word.ensures)
-        (ap (λ w. get_elem? (slots_items w) 4) (sym same) ∙ c.word-2.ensures)
-        (ap (λ w. get_elem? (slots_items w) 5) (sym same) ∙ c.word-3.ensures)
-        (ap (λ w. get_elem? (slots_items w) 6) (sym same) ∙ c.word-4.ensures)
+    (ap (λ w. get_elem? (slots_items w) 1) (sym same) ∙ c.word-facs.ensures)
+    (ap (λ w. get_elem? (slots_items w) 2) (sym same) ∙ c.word-fixed.ensures)
+    (ap (λ w. get_elem? (slots_items w) 3) (sym same) ∙ c.word.ensures)
+    (ap (λ w. get_elem? (slots_items w) 4) (sym same) ∙ c.word-2.ensures)
+    (ap (λ w. get_elem? (slots_items w) 5) (sym same) ∙ c.word-3.ensures)
+    (ap (λ w. get_elem? (slots_items w) 6) (sym same) ∙ c.word-4.ensures)
 
 pub overflow_cast-facs : goal.overflow_cast-facs
 overflow_cast-facs g c =

@@ -13,8 +13,7 @@ exchange-requires g c =
 
 pub load-requires : goal.load-requires
 load-requires g c =
-    let t = c.compare_exchange-found.ensures.2.0 c.if-found-ne0.false in
-    (
+    let t = c.compare_exchange-found.ensures.2.0 c.if-found-ne0.false in (
       search rules,
       search rules,
       puts_in _ _ _ _ _ _ _ _ (swapped_me _ _ _ _ _ (took_me _ _ _ _ _ (seat_me c.seat.inside.badge _ _ c.taken-inner.ensures.2 c.seat.view_is) t.3) c.exchange.ensures.3) refl,

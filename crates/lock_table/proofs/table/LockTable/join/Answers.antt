@@ -22,4 +22,4 @@ invariant_of-root g c =
     let its = seat_me c.seat.inside.badge _ _ c.risen.ensures.2 c.seat.view_is in
     let joined = rejoined_me c.args.root.now.view c.args.seat.view _ _ _ me its c.join_seat.ensures.2 in
     seat_rejoined c.root.inside.badge c.seat.inside.badge c.into_badge.result c.args.root.now c.args.seat _ _ _ _ c.root.view_is c.root.invariant c.seat.view_is c.seat.invariant c.requires.root c.requires.seat.0 c.requires.seat.1
-        (c.into_badge.ensures.2 ∙ ap (λ x. x.0 ∷ []) (learned_me _ _ _ joined c.load.ensures.2.0))
+    (c.into_badge.ensures.2 ∙ ap (λ x. x.0 ∷ []) (learned_me _ _ _ joined c.load.ensures.2.0))

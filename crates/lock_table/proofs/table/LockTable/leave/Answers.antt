@@ -1,6 +1,6 @@
-use Rattle.std.proofs.Common.{rules, refl, ◌≡◌, ap, ◌∙◌, ◌∷◌, [], subst, sym, Some}
+use Rattle.std.proofs.Common.{rules, refl, ap, ◌∙◌, ◌∷◌, [], subst}
 use Rattle.lock_table.specs.declared.view.Stage.TheVariants as stage
-use Rattle.lock_table.specs.Views.{IsOwn, gave, staged}
+use Rattle.lock_table.specs.Views.{IsOwn, staged}
 use Rattle.lock_table.proofs.SeatFacts.{gave_me, lifted_me, seat_gave, seat_me, swapped_me}
 use Rattle.lock_table.proofs.TurnSteps.{gives_turn, lifts}
 use Rattle.lock_table.proofs.table.LockTable.leave.Goals as goal

@@ -1,4 +1,4 @@
-use Rattle.std.proofs.Common.{◌≡◌, ℕ, List, [], ◌∷◌, None, sym, ap, subst, ◌∙◌}
+use Rattle.std.proofs.Common.{◌≡◌, ℕ, [], ◌∷◌, None, sym, ap, subst, ◌∙◌}
 use Rattle.atomic_table.specs.Table.{opening}
 use Rattle.facs_word.specs.Table.{lock_of}
 use Rattle.lock_table.specs.Rule.{Kept}

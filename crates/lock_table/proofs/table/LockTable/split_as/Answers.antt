@@ -1,4 +1,4 @@
-use Rattle.std.proofs.Common.{rules, refl, ap, ◌∙◌, ◌∷◌, []}
+use Rattle.std.proofs.Common.{rules, ap, ◌∙◌, ◌∷◌, []}
 use Rattle.lock_table.specs.Views.{seated, without}
 use Rattle.lock_table.proofs.SeatFacts.{seat_fresh, seat_me, seat_without}
 use Rattle.lock_table.proofs.Splitting.{splits_here}
