@@ -1,11 +1,13 @@
 -- What is known of a seat that is taken out of its badge.
-use Rattle.std.proofs.Common.{◌≡◌, Bool, ℕ, List, [], ◌∷◌, Option, Some, None, refl, sym, ap, subst, ◌∙◌}
+use Rattle.std.proofs.Common.{◌≡◌, Bool, true, false, ℕ, List, [], ◌∷◌, Option, Some, None, refl, sym, ap, subst, ◌∙◌}
 use Rattle.atomic_table.specs.declared.badge.Badge.{Badge}
 use Rattle.atomic_table.specs.Table.{rest}
 use Rattle.acpi_regs.specs.declared.actor.Actor.{Actor}
+use Rattle.acpi_regs.specs.declared.actor.Actor.TheVariants as actor
 use Rattle.acpi_regs.specs.declared.entry.Deed.{Deed}
 use Rattle.acpi_regs.specs.declared.entry.Deed.TheVariants as deed
 use Rattle.acpi_regs.specs.declared.entry.Entry.{Entry}
+use Rattle.acpi_regs.specs.CoreSound.{is_kind}
 use Rattle.lock_table.specs.declared.view.Occupant.{Occupant}
 use Rattle.lock_table.specs.declared.view.Occupant.TheVariants as who
 use Rattle.lock_table.specs.declared.view.Part.{Part}
@@ -13,10 +15,12 @@ use Rattle.lock_table.specs.declared.view.SeatPhase.{SeatPhase}
 use Rattle.lock_table.specs.declared.view.SeatPhase.TheVariants as kept
 use Rattle.lock_table.specs.declared.view.Stage.TheVariants as stage
 use Rattle.lock_table.specs.declared.view.View.{View}
-use Rattle.lock_table.specs.Calls.{IsSeat, KnowsSignal, Pass, Signals, actor_in, pass_of, view_in}
+use Rattle.lock_table.specs.Calls.{IsOne, IsSeat, KnowsSignal, Pass, Signals, actor_in, pass_of, view_in}
 use Rattle.lock_table.specs.Plays.{Mine}
 use Rattle.lock_table.specs.Rule.{IsSomebody}
-use Rattle.lock_table.specs.Views.{IsOwn, after_deed, after_deeds, deeds_of, gave, let_go, map_one, new_in, staged, took, wrote}
+use Rattle.lock_table.specs.Views.{EachPart, HoldsInTurn, IsOwn, IsRoot, NotHolding, after_deed, after_deeds, deeds_of, find, fresh, gave, learned, less, let_go, lone, map_one, more, new_in, parts_in, phase_of, rejoined, root_parts, seated, staged, took, without, wrote}
+use Rattle.lock_table.proofs.PartLists.{each_other}
+use Rattle.lock_table.proofs.Splitting.{fresh_free}
 use Rattle.lock_table.proofs.Stepping.{still_somebody}
 
 pub seat_me : {B : Type 0} (b : Badge View) (p : Pass) (me : Mine B) → me ≡ (view_in b.views, []) → pass_of b ≡ p → me ≡ (p.view, [])
@@ -100,3 +104,89 @@ pub seat_gave : (b c : Badge View) (p : Pass) (actor : Option Actor) (signal : B
 seat_gave b c p actor signal h is seat there own =
     seat_after b c p actor signal (wrote (new_in h p.view)) (gave h p.view) (λ q. refl) is seat there own refl signal
         (signal_still signal (wrote (new_in h p.view)) (λ q known. keeps_signal signal (deeds_of (new_in h p.view)) q.phase known) p.view.who (subst (λ (q : Pass). KnowsSignal signal q.view.who) is seat.signalled))
+
+-- ---- the seats of a split
+
+own_less : (a : Actor) (v : View) → IsOwn v → (w : Occupant) → v.who ≡ w → IsOwn (without a v)
+own_less a v h (who.Root ps) is =
+    let left = ap (less a) is in
+    record {
+      kinds = subst (λ w. EachPart (λ q. is_kind q.actor (phase_of q.phase) ≡ true) (parts_in w)) (sym left) (each_other (λ q. is_kind q.actor (phase_of q.phase) ≡ true) (λ q. is_kind q.actor (phase_of q.phase) ≡ true) a (λ q _ it. it) ps (subst (λ w. EachPart (λ q. is_kind q.actor (phase_of q.phase) ≡ true) (parts_in w)) is h.kinds));
+      free = subst (HoldsInTurn v.stage) (sym left) (each_other NotHolding NotHolding a (λ q _ it. it) ps (subst (HoldsInTurn v.stage) is h.free));
+    }
+own_less a v h (who.One p) is =
+    let left = ap (less a) is ∙ sym is in
+    record { kinds = subst (λ w. EachPart (λ q. is_kind q.actor (phase_of q.phase) ≡ true) (parts_in w)) (sym left) h.kinds; free = subst (HoldsInTurn v.stage) (sym left) h.free }
+own_less a v h who.Nobody is =
+    let left = ap (less a) is ∙ sym is in
+    record { kinds = subst (λ w. EachPart (λ q. is_kind q.actor (phase_of q.phase) ≡ true) (parts_in w)) (sym left) h.kinds; free = subst (HoldsInTurn v.stage) (sym left) h.free }
+
+named_less : (a : Actor) (w : Occupant) → actor_in w ≡ actor_in (less a w)
+named_less a (who.Root ps) = refl
+named_less a (who.One p) = refl
+named_less a who.Nobody = refl
+
+somebody_less : (a : Actor) (w : Occupant) → IsSomebody w → IsSomebody (less a w)
+somebody_less a (who.Root ps) h = tt
+somebody_less a (who.One p) h = tt
+somebody_less a who.Nobody h = h
+
+signal_less : (signal : Bool) (a : Actor) (w : Occupant) → KnowsSignal signal w → KnowsSignal signal (less a w)
+signal_less signal a (who.Root ps) h = tt
+signal_less signal a (who.One p) h = h
+signal_less signal a who.Nobody h = tt
+
+pub seat_without : (b c : Badge View) (p : Pass) (actor : Option Actor) (signal : Bool) (a : Actor) → pass_of b ≡ p → IsSeat b actor signal → c.views ≡ without a p.view ∷ [] → IsSeat c actor signal
+seat_without b c p actor signal a is h there =
+    is_seat c (without a p.view) actor signal there
+        (own_less a p.view (subst (λ (q : Pass). IsOwn q.view) is h.own) p.view.who refl)
+        (somebody_less a p.view.who (subst (λ (q : Pass). IsSomebody q.view.who) is h.somebody))
+        (h.named ∙ ap (λ (q : Pass). actor_in q.view.who) is ∙ named_less a p.view.who)
+        (signal_less signal a p.view.who (subst (λ (q : Pass). KnowsSignal signal q.view.who) is h.signalled))
+
+fresh_kind : (a : Actor) → is_kind a (phase_of (fresh a).phase) ≡ true
+fresh_kind actor.Int = refl
+fresh_kind actor.Poll = refl
+fresh_kind actor.Ec = refl
+fresh_kind (actor.Worker k) = refl
+fresh_kind (actor.Device k) = refl
+fresh_kind (actor.Firmware k) = refl
+
+fresh_signal : (a : Actor) → Signals false (fresh a).phase
+fresh_signal actor.Int = tt
+fresh_signal actor.Poll = tt
+fresh_signal actor.Ec = tt
+fresh_signal (actor.Worker k) = tt
+fresh_signal (actor.Device k) = tt
+fresh_signal (actor.Firmware k) = tt
+
+pub seat_fresh : (c : Badge View) (v : View) (a b : Actor) → find a (root_parts v.who) ≡ Some (fresh a) → a ≡ b → c.views ≡ seated a v ∷ [] → IsSeat c (Some b) false
+seat_fresh c v a b found same there =
+    let one = sym (ap lone found) in
+    is_seat c (seated a v) (Some b) false there
+        (record { kinds = subst (λ w. EachPart (λ q. is_kind q.actor (phase_of q.phase) ≡ true) (parts_in w)) one (fresh_kind a, tt); free = subst (HoldsInTurn stage.Away) one (λ _. fresh_free a) })
+        (subst IsSomebody one tt) (ap Some (sym same) ∙ ap actor_in one) (subst (KnowsSignal false) one (fresh_signal a))
+
+-- ---- the root of a join
+
+pub rejoined_me : {B : Type 0} (v w : View) (me its after : Mine B) → me ≡ (v, []) → its ≡ (w, []) → after ≡ (rejoined me.0 its.0, me.1) → after ≡ (rejoined v w, [])
+rejoined_me v w me its after at at_other is = is ∙ ap (λ y. (rejoined me.0 y.0, me.1)) at_other ∙ ap (λ x. (rejoined x.0 w, x.1)) at
+
+pub learned_me : {B : Type 0} (v : View) (me after : Mine B) → me ≡ (v, []) → after ≡ (learned me.0, me.1) → after ≡ (learned v, [])
+learned_me v me after at is = is ∙ ap (λ x. (learned x.0, x.1)) at
+
+pub seat_rejoined : (b c d : Badge View) (r t : Pass) (actor its : Option Actor) (signal found : Bool) → pass_of b ≡ r → IsSeat b actor signal → pass_of c ≡ t → IsSeat c its found → IsRoot r.view.who → IsOne t.view.who → t.view.stage ≡ stage.Away
+    → d.views ≡ learned (rejoined r.view t.view) ∷ [] → IsSeat d actor signal
+seat_rejoined b c d r t actor its signal found is h is_other other root one away there =
+    let own = subst (λ (q : Pass). IsOwn q.view) is h.own in
+    let its_own = subst (λ (q : Pass). IsOwn q.view) is_other other.own in
+    let now : more r.view.who t.view.who ≡ who.Root (one.0 ∷ root.0) = ap (λ o. more o t.view.who) root.1 ∙ ap (more (who.Root root.0)) one.1 in
+    let back = sym now in
+    is_seat d (learned (rejoined r.view t.view)) actor signal there
+        (record {
+          kinds = subst (λ w. EachPart (λ q. is_kind q.actor (phase_of q.phase) ≡ true) (parts_in w)) back ((subst (λ w. EachPart (λ q. is_kind q.actor (phase_of q.phase) ≡ true) (parts_in w)) one.1 its_own.kinds).0, subst (λ w. EachPart (λ q. is_kind q.actor (phase_of q.phase) ≡ true) (parts_in w)) root.1 own.kinds);
+          free = subst (HoldsInTurn r.view.stage) back (subst (HoldsInTurn t.view.stage) one.1 its_own.free away, subst (HoldsInTurn r.view.stage) root.1 own.free);
+        })
+        (subst IsSomebody back tt)
+        (h.named ∙ ap (λ (q : Pass). actor_in q.view.who) is ∙ ap actor_in root.1 ∙ ap actor_in back)
+        (subst (KnowsSignal signal) back tt)

@@ -27,10 +27,6 @@ Homes B = List (m.Option (Option B))
 
 -- ---- the parts of a seat
 
-kinds_of : (core : Core) (seat_of : Actor → ℕ) (j : ℕ) → AreOfKind core.phases → (ps : List Part) → EachPart (Sits core seat_of j) ps → EachPart (λ p. is_kind p.actor (phase_of p.phase) ≡ true) ps
-kinds_of core seat_of j kinds [] h = tt
-kinds_of core seat_of j kinds (p ∷ ps) h = (ap (is_kind p.actor) h.0.2.0 ∙ kinds p.actor, kinds_of core seat_of j kinds ps h.1)
-
 -- a change of the part of one actor, which stays that actor's
 module _ (f : Part → Part) (same : (p : Part) → (f p).actor ≡ p.actor) where
   pub still_found : (w : Occupant) (a : Actor) → IsSome (find a (parts_in w)) → IsSome (find a (parts_in (map_one f w)))
@@ -64,9 +60,6 @@ still_sits f core seat_of j each who.Nobody h = tt
 module _ {B X : Type 0} (lists : X → List (List Event)) (base : B → X) (entries : B → List Entry) (key : B) where
   abbrev Rule : State (Option B) View → Type 0
   Rule = Kept lists base entries key
-
-  pub own_of : (s : State (Option B) View) → Rule s → (id : ℕ) (v : View) → get_elem? s.views id ≡ m.some v → IsOwn v
-  own_of s k id v at = let f = k.fits id v at in record { kinds = kinds_of k.core k.seat_of id k.sound.kinds (parts_in v.who) f.sits; free = f.free }
 
   module _ (s : State (Option B) View) (k : Rule s) (id : ℕ) (v w : View) (at : get_elem? s.views id ≡ m.some v) where
     -- the holder of the turn is there as before

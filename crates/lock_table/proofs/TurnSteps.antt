@@ -26,8 +26,8 @@ use Rattle.lock_table.specs.Plays.{Given, Lifted, Mine, PutIn, Taken}
 use Rattle.lock_table.specs.Rule.{Fits, HasTurn, IsHome, IsOut, IsSomebody, Kept, RootIs, Sits, slot_at}
 use Rattle.lock_table.specs.Views.{EachPart, HoldsInTurn, IsOwn, MayAdd, NotHolding, StartsWith, after_deeds, deeds_of, gave, let_go, map_one, missed, new_in, noted, parts_in, phase_of, staged, took, wrote}
 use Rattle.lock_table.proofs.Histories.{deeds_back, lets_go, means_moved, new_behind, of_more, of_others, starts_further, starts_itself}
-use Rattle.lock_table.proofs.OneStep.{set_at}
-use Rattle.lock_table.proofs.Stepping.{Homes, built, others_same, own_of, still_found, still_out, still_root, still_sits, still_somebody}
+use Rattle.lock_table.proofs.OneStep.{own_of, set_at}
+use Rattle.lock_table.proofs.Stepping.{Homes, built, others_same, still_found, still_out, still_root, still_sits, still_somebody}
 
 -- ---- stages
 

@@ -6,6 +6,7 @@
 #![tactic(auto)]
 
 pub mod laws;
+mod lends;
 mod plays;
 mod rule;
 mod seat;
