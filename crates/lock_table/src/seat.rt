@@ -28,6 +28,25 @@ impl Model for TableSeat {
     ghost invariant = { λ s. IsSeat s.badge s.actor s.signal };
 }
 
+impl TableSeat {
+    ghost use Rattle.std.specs.Prelude.{◌≡◌};
+    ghost use Rattle.lock_table.specs.Calls.{KnowsSignal, actor_in};
+
+    /// The seat's actor; none for the root.
+    pub fn actor(&self) -> Option<Actor>
+        ensures { result ≡ actor_in self.now.view.who }
+    {
+        self.actor
+    }
+
+    /// While its actor has released the Global Lock's word and not left: whether that word was pending.
+    pub fn signal(&self) -> bool
+        ensures { KnowsSignal result self.now.view.who }
+    {
+        self.signal
+    }
+}
+
 /// The board while its seat has the turn.
 pub struct Turn<B> {
     pub(crate) board: B,
