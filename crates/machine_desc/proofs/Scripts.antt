@@ -1,5 +1,5 @@
 -- The rules of a machine make its scripts run well.
-use Rattle.std.proofs.Common.{ℕ, zero, suc, ◌+◌, ◌≡◌, ◌&&◌, Bool, true, false, not, List, [], ◌∷◌, length, map, slice_get, Option, Some, None, is_some, refl, sym, ap, ◌∙◌, subst, if◌then◌else◌}
+use Rattle.std.proofs.Common.{ℕ, zero, suc, ◌+◌, ◌≡◌, ◌&&◌, Bool, true, false, not, List, [], ◌∷◌, length, slice_get, Option, Some, None, is_some, refl, sym, ap, ◌∙◌, subst, if◌then◌else◌}
 use Rattle.std.proofs.lemmas.Bool.{and_parts, not-false, not-true}
 use Rattle.acpi_regs.specs.declared.actor.Side.{Side}
 use Rattle.acpi_regs.specs.declared.actor.Side.TheVariants as side
@@ -15,13 +15,10 @@ use Rattle.handler_script.specs.declared.fault.ScriptFault.TheVariants as fault
 use Rattle.handler_script.specs.declared.op.Op.{Op}
 use Rattle.handler_script.specs.declared.op.Op.TheVariants as op
 use Rattle.handler_script.specs.Accepts.{faults_from, first_of, is_allowed, is_balanced, is_known, is_sound_skip, open_after, script_fault}
-use Rattle.handler_script.specs.Each.{Each, IsTrueOn, act_alone}
+use Rattle.handler_script.specs.Each.{IsTrueOn, act_alone}
 use Rattle.handler_script.specs.Parts.{access_needs, bursts, read_in, write_in}
-use Rattle.handler_script.specs.Plan.{plan}
 use Rattle.handler_script.proofs.Each.{each}
 use Rattle.handler_script.proofs.Locks.{plan_locked}
-use Rattle.machine_desc.specs.declared.machine.ListedEvent.{ListedEvent}
-use Rattle.machine_desc.specs.declared.machine.Query.{Query}
 use Rattle.machine_desc.specs.Kept.{IsField, IsHandler, IsListed, IsMachine, IsQuery, IsRegion, listed_in, own_event, queries_in}
 use Rattle.machine_desc.specs.Machine.{MachineData}
 use Rattle.machine_desc.specs.Rules.{forbids, is_listed}

@@ -10,7 +10,6 @@ use Rattle.handler_script.specs.Each.{Each}
 use Rattle.handler_script.specs.Locked.{Locked}
 use Rattle.handler_script.specs.Plan.{plan}
 use Rattle.machine_desc.specs.declared.machine.ListedEvent.{ListedEvent}
-use Rattle.machine_desc.specs.declared.machine.Query.{Query}
 use Rattle.machine_desc.specs.Kept.{IsMachine, listed_in, own_event, queries_in}
 use Rattle.machine_desc.specs.Machine.{MachineData}
 use Rattle.machine_desc.specs.Rules.{is_event_of, is_listed}
