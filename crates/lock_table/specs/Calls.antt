@@ -24,6 +24,10 @@ use Rattle.lock_table.specs.Views.{EachPart, IsOwn, StartsWith, first_view, miss
 
 -- ---- a seat
 
+-- which table it is
+abbrev pub TableName : Type 0
+TableName = TableId
+
 -- the table, the seat's number there, and what it knows
 pub record Pass : Type 0 where
   pub table : TableId
