@@ -1,6 +1,7 @@
 -- A turn of a duty is one that a shared table takes back, and what it makes of the seat.
 use Rattle.std.proofs.Common.{◌≡◌, ◌&&◌, not, ◌<◌, ◌≤◌, ◌+◌, ℕ, zero, suc, Bool, true, false, cond, List, [], ◌∷◌, ◌++◌, map, reverse, length, drop, Option, Some, None, refl, sym, ap, subst, ◌∙◌, arith, sum_by, nat_lt}
 use mathlib.Core.List.{map-append, reverse-append}
+use Rattle.std.proofs.lemmas.Bool.{lt-ltb}
 use Rattle.acpi_regs.specs.declared.actor.Actor.{Actor}
 use Rattle.acpi_regs.specs.declared.entry.Deed.{Deed}
 use Rattle.acpi_regs.specs.declared.entry.Deed.TheVariants as deed
@@ -24,6 +25,8 @@ use Rattle.lock_table.specs.declared.view.Occupant.TheVariants as who
 use Rattle.lock_table.specs.declared.view.Part.{Part}
 use Rattle.lock_table.specs.declared.view.SeatPhase.{SeatPhase}
 use Rattle.lock_table.specs.declared.view.SeatPhase.TheVariants as kept
+use Rattle.lock_table.specs.declared.view.Stage.{Stage}
+use Rattle.lock_table.specs.declared.view.Stage.TheVariants as stage
 use Rattle.lock_table.specs.declared.view.View.{View}
 use Rattle.lock_table.specs.declared.words.Bits.{Bits}
 use Rattle.lock_table.specs.Bits.{is_set, words_of}
@@ -39,7 +42,7 @@ use Rattle.world.specs.declared.turn.Acted.{Acted}
 use Rattle.world.specs.Duties.{AreLatchable, HasNoLatch, IsTurn, IsWithin, pinned}
 use Rattle.world.specs.Duties as duties
 use Rattle.world.specs.Shared.{AllowsLock, MayAct, finished, gathered}
-use Rattle.world.proofs.Events.{no_events}
+use Rattle.world.proofs.Events.{events_first, events_more, no_events}
 
 -- ---- what was collected
 
@@ -167,3 +170,90 @@ module _ (m : MachineData) (p : SeatPhase) (a : Actor) (lock : Option Deed) (bef
 
   pub turn_is : regs.IsTurn (phase_of p) (reverse before) a deeds
   turn_is = subst (λ q. regs.IsTurn q (reverse before) a deeds) is_phase (bus_turn m core a deeds bus)
+
+-- ---- the events of a collect are those in hand
+
+rank_at : (k : ℕ) → event_rank (event_at k) ≡ k
+rank_at zero = refl
+rank_at (suc zero) = refl
+rank_at (suc (suc zero)) = refl
+rank_at (suc (suc (suc zero))) = refl
+rank_at (suc (suc (suc (suc zero)))) = refl
+rank_at (suc (suc (suc (suc (suc k))))) = omega arith
+
+pinned_below : (bits : Bits) (k : ℕ) → k ≤ all_events → events_below (pinned bits) k ≡ events_below (is_set bits) k
+pinned_below bits zero within = events_first (pinned bits) ∙ sym (events_first (is_set bits))
+pinned_below bits (suc k) within =
+    let below : k < all_events = omega (arith, within) in
+    let there : nat_lt (event_rank (event_at k)) all_events ≡ true = ap (λ r. nat_lt r all_events) (rank_at k) ∙ lt-ltb k all_events below in
+    events_more (pinned bits) k
+    ∙ ap (λ l. l ++ if_in (pinned bits) (event_at k)) (pinned_below bits k (omega (arith, below)))
+    ∙ ap (λ b. events_below (is_set bits) k ++ cond (b && is_set bits (event_at k)) (event_at k ∷ []) []) there
+    ∙ sym (events_more (is_set bits) k)
+
+pinned_events : (bits : Bits) → events_of (pinned bits) ≡ events_of (pins_of (words_of bits))
+pinned_events bits = pinned_below bits all_events (omega arith)
+
+empty_hand : (p : SeatPhase) → is_holding (phase_of p) ≡ false → events_of (in_hand (phase_of p)) ≡ []
+empty_hand (kept.Lock q) empty = no_events
+empty_hand kept.Free empty = no_events
+empty_hand (kept.Holding hand) empty = cc
+empty_hand (kept.Pulsed ps) empty = no_events
+
+-- ---- what the table asks of the turn, and what the seat is behind it
+
+free_allows : (hand : List ℕ) (lock : Option Deed) → AllowsLock kept.Free lock → AllowsLock (kept.Holding hand) lock
+free_allows hand None allows = tt
+free_allows hand (Some d) allows = allows
+
+module _ (m : MachineData) (a : Actor) (lock : Option Deed) (before after : List Entry) (told : List Entry) (g : Stage) (bits : Bits) (answer : Acted) where
+  abbrev of : Occupant → View
+  of o = record { who = o; seen = before; told = told; stage = g }
+
+  added : (collect : Bool) (o : Occupant) → ForOne (MayAct a collect lock) o → (collect ≡ false → events_of (pinned bits) ≡ []) → IsTurn a lock before after (events_of (pinned bits)) answer → Legal m after
+      → MayAdd (gathered collect (words_of bits) (of o)).who before after
+  added collect (who.Root ps) may nothing turn legal = absurd may
+  added collect who.Nobody may nothing turn legal = absurd may
+  added true (who.One p) may nothing turn legal =
+      let allows = free_allows (words_of bits) lock (subst (λ q. AllowsLock q lock) (may.free refl) may.allows) in
+      let its = subst (λ x. IsTurn x lock before after (events_of (pinned bits)) answer) (sym may.is_its) turn in
+      (deeds m (kept.Holding (words_of bits)) p.actor lock before after (events_of (pinned bits)) answer (pinned_events bits) allows its legal,
+      adds m (kept.Holding (words_of bits)) p.actor lock before after (events_of (pinned bits)) answer (pinned_events bits) allows its legal,
+      turn_is m (kept.Holding (words_of bits)) p.actor lock before after (events_of (pinned bits)) answer (pinned_events bits) allows its legal)
+  added false (who.One p) may nothing turn legal =
+      let hand = nothing refl ∙ sym (empty_hand p.phase may.empty) in
+      let its = subst (λ x. IsTurn x lock before after (events_of (pinned bits)) answer) (sym may.is_its) turn in
+      (deeds m p.phase p.actor lock before after (events_of (pinned bits)) answer hand may.allows its legal,
+      adds m p.phase p.actor lock before after (events_of (pinned bits)) answer hand may.allows its legal,
+      turn_is m p.phase p.actor lock before after (events_of (pinned bits)) answer hand may.allows its legal)
+
+pub may_add_turn : (m : MachineData) (a : Actor) (lock : Option Deed) (collect : Bool) (v w : View) (after : List Entry) (bits : Bits) (answer : Acted) → w ≡ gathered collect (words_of bits) v → ForOne (MayAct a collect lock) v.who
+    → (collect ≡ false → events_of (pinned bits) ≡ []) → IsTurn a lock v.seen after (events_of (pinned bits)) answer → Legal m after → MayAdd w.who w.seen after
+may_add_turn m a lock collect v w after bits answer is may nothing turn legal = subst (λ (x : View). MayAdd x.who x.seen after) (sym is) (by_collect collect (added m a lock v.seen after v.told v.stage bits answer collect v.who may nothing turn legal))
+  where
+    by_collect : (c : Bool) → MayAdd (gathered c (words_of bits) v).who v.seen after → MayAdd (gathered c (words_of bits) v).who (gathered c (words_of bits) v).seen after
+    by_collect true h = h
+    by_collect false h = h
+
+hold_still : (ds : List Deed) (hand : List ℕ) → after_deeds ds (kept.Holding hand) ≡ kept.Holding hand
+hold_still [] hand = refl
+hold_still (d ∷ ds) hand = hold_still ds hand
+
+free_still : (ds : List Deed) → after_deeds ds kept.Free ≡ kept.Free
+free_still [] = refl
+free_still (d ∷ ds) = free_still ds
+
+freed : (ds : List Deed) (hand : List ℕ) (p : SeatPhase) → p ≡ kept.Free → let_go (after_deeds ds (kept.Holding hand)) ≡ let_go (after_deeds ds p)
+freed ds hand p is = ap let_go (hold_still ds hand) ∙ sym (ap let_go (ap (after_deeds ds) is ∙ free_still ds))
+
+ends : (a : Actor) (lock : Option Deed) (collect : Bool) (hand : List ℕ) (before after told : List Entry) (g : Stage) (o : Occupant) → ForOne (MayAct a collect lock) o
+    → gave after (gathered collect hand (record { who = o; seen = before; told = told; stage = g })) ≡ finished collect after (record { who = o; seen = before; told = told; stage = g })
+ends a lock collect hand before after told g (who.Root ps) may = absurd may
+ends a lock collect hand before after told g who.Nobody may = absurd may
+ends a lock false hand before after told g (who.One p) may = refl
+ends a lock true hand before after told g (who.One p) may = ap
+    (λ q. record { who = who.One (record { actor = p.actor; phase = q; mine = p.mine ++ drop (length before) after; tried = p.tried; found = p.found; swept = p.swept + 5 }); seen = after; told = told; stage = stage.Away })
+    (freed (deeds_of (drop (length before) after)) hand p.phase (may.free refl))
+
+pub is_finished : (a : Actor) (lock : Option Deed) (collect : Bool) (hand : List ℕ) (v w x : View) (after : List Entry) → w ≡ gathered collect hand v → x ≡ gave after w → ForOne (MayAct a collect lock) v.who → x ≡ finished collect after v
+is_finished a lock collect hand v w x after is then may = then ∙ ap (gave after) is ∙ ends a lock collect hand v.seen after v.told v.stage v.who may
