@@ -3,6 +3,7 @@ use Rattle.std.proofs.Common.{◌≡◌, ◌&&◌, not, ◌<◌, ◌≤◌, ◌+
 use mathlib.Core.List.{map-append, reverse-append}
 use Rattle.std.proofs.lemmas.Bool.{lt-ltb}
 use Rattle.acpi_regs.specs.declared.actor.Actor.{Actor}
+use Rattle.acpi_regs.specs.declared.actor.Actor.TheVariants as actor
 use Rattle.acpi_regs.specs.declared.entry.Deed.{Deed}
 use Rattle.acpi_regs.specs.declared.entry.Deed.TheVariants as deed
 use Rattle.acpi_regs.specs.declared.entry.Entry.{Entry}
@@ -11,7 +12,7 @@ use Rattle.acpi_regs.specs.Actor.{same_actor}
 use Rattle.acpi_regs.specs.Core.{Core, all_events, event_at, events_below, events_of, if_in, no_event}
 use Rattle.acpi_regs.specs.CoreEvents.{entry, in_hand, is_holding, lock_deeds, may_add, one, past_in}
 use Rattle.acpi_regs.specs.CoreEvents as regs
-use Rattle.acpi_regs.specs.CoreSound.{listed_pulses, times}
+use Rattle.acpi_regs.specs.CoreSound.{is_kind, listed_pulses, times}
 use Rattle.acpi_regs.specs.CoreSound as regs_sound
 use Rattle.acpi_regs.specs.Event.{event_rank}
 use Rattle.acpi_regs.specs.Phases.{Free, Holding, Lock, Phase, Pulsed, is_lock_deed, put}
@@ -31,17 +32,18 @@ use Rattle.lock_table.specs.declared.view.View.{View}
 use Rattle.lock_table.specs.declared.words.Bits.{Bits}
 use Rattle.lock_table.specs.Bits.{is_set, words_of}
 use Rattle.lock_table.specs.Pins.{pins_of}
-use Rattle.lock_table.specs.Views.{ForOne, MayAdd, after_deed, after_deeds, deeds_of, gave, let_go, map_one, phase_of}
+use Rattle.lock_table.specs.Views.{EachPart, ForOne, HoldsInTurn, IsOwn, MayAdd, after_deed, after_deeds, deeds_of, gave, let_go, map_one, noted, parts_in, phase_of}
 use Rattle.lock_table.specs.WordPlays.{AreFewer}
 use Rattle.machine_desc.specs.Machine.{MachineData}
-use Rattle.machine_history.specs.Legal.{Allowed, Legal, LegalPast}
+use Rattle.machine_history.specs.Legal.{Allowed, Legal, LegalPast, is_host}
 use Rattle.machine_history.specs.Machine.{pulses_of}
 use Rattle.machine_history.specs.Machine as machine
 use Rattle.machine_history.specs.Steps.{latch}
 use Rattle.world.specs.declared.turn.Acted.{Acted}
 use Rattle.world.specs.Duties.{AreLatchable, HasNoLatch, IsTurn, IsWithin, pinned}
 use Rattle.world.specs.Duties as duties
-use Rattle.world.specs.Shared.{AllowsLock, MayAct, finished, gathered}
+use Rattle.world.specs.Calls.{To_turn}
+use Rattle.world.specs.Shared.{AllowsLock, MayAct, SeatMay, finished, gathered}
 use Rattle.world.proofs.Events.{events_first, events_more, no_events}
 
 -- ---- what was collected
@@ -257,3 +259,36 @@ ends a lock true hand before after told g (who.One p) may = ap
 
 pub is_finished : (a : Actor) (lock : Option Deed) (collect : Bool) (hand : List ℕ) (v w x : View) (after : List Entry) → w ≡ gathered collect hand v → x ≡ gave after w → ForOne (MayAct a collect lock) v.who → x ≡ finished collect after v
 is_finished a lock collect hand v w x after is then may = then ∙ ap (gave after) is ∙ ends a lock collect hand v.seen after v.told v.stage v.who may
+
+-- ---- a seat that may take a turn may act in it
+
+free_host : (b : Actor) (k : SeatPhase) → is_host b ≡ true → is_kind b (phase_of k) ≡ true → is_holding (phase_of k) ≡ false → k ≡ kept.Free
+free_host b kept.Free host kind empty = refl
+free_host b (kept.Holding hand) host kind empty = cc
+free_host actor.Int (kept.Lock q) host kind empty = cc
+free_host actor.Poll (kept.Lock q) host kind empty = cc
+free_host actor.Int (kept.Pulsed ps) host kind empty = cc
+free_host actor.Poll (kept.Pulsed ps) host kind empty = cc
+free_host _ (kept.Lock q) host kind empty = cc
+free_host _ (kept.Pulsed ps) host kind empty = cc
+
+hosts_collect : (b : Bool) → (b ≡ false → true ≡ false) → b ≡ true
+hosts_collect true h = refl
+hosts_collect false h = absurd (no (h refl))
+  where
+    no : true ≡ false → ⊥
+    no e = cc
+
+may_act_in : (a : Actor) (collect : Bool) (lock : Option Deed) (g : Stage) (o : Occupant) → g ≡ stage.Away → ForOne (λ p. (p.actor ≡ a) × AllowsLock p.phase lock) o → EachPart (λ p. is_kind p.actor (phase_of p.phase) ≡ true) (parts_in o) → HoldsInTurn g o
+    → (is_host a ≡ false → collect ≡ false) → ForOne (MayAct a collect lock) (map_one (noted 0) o)
+may_act_in a collect lock g (who.Root ps) away may kinds free hosts = absurd may
+may_act_in a collect lock g who.Nobody away may kinds free hosts = absurd may
+may_act_in a collect lock g (who.One p) away may kinds free hosts = record {
+  is_its = may.0;
+  allows = may.1;
+  empty = free away;
+  free = λ collects. free_host p.actor p.phase (ap is_host may.0 ∙ hosts_collect (is_host a) (λ isnt. sym collects ∙ hosts isnt)) kinds.0 (free away);
+}
+
+pub may_act : (a : Actor) (collect : Bool) (lock : Option Deed) (lists : List (List Event)) (v w : View) → SeatMay lists v a (To_turn collect lock) → IsOwn v → (is_host a ≡ false → collect ≡ false) → w.who ≡ map_one (noted 0) v.who → ForOne (MayAct a collect lock) w.who
+may_act a collect lock lists v w may own hosts is = subst (ForOne (MayAct a collect lock)) (sym is) (may_act_in a collect lock v.stage v.who may.away may.part own.kinds own.free hosts)
