@@ -10,8 +10,10 @@ use Rattle.lock_table.specs.declared.view.SeatPhase.{SeatPhase}
 use Rattle.lock_table.specs.declared.view.SeatPhase.TheVariants as kept
 use Rattle.lock_table.specs.declared.view.Stage.TheVariants as stage
 use Rattle.lock_table.specs.declared.view.View.{View}
-use Rattle.lock_table.specs.Views.{ForOne, IsNext, IsQuit, IsSeeking, StartsWith, after_deeds, deeds_of, holding, let_go, map_one, missed, phase_of, pulses, with_one}
+use Rattle.lock_table.specs.Views.{ForOne, IsNext, IsQuit, IsSeeking, MadeIn, StartsWith, after_deeds, deeds_of, holding, let_go, map_one, missed, phase_of, pulses, with_one}
 use Rattle.lock_table.specs.WordCalls.{Attempts, Releases}
+use Rattle.machine_desc.specs.Machine.{MachineData}
+use Rattle.machine_history.specs.Legal.{Legal}
 use Rattle.world.specs.declared.turn.Acted.{Acted}
 use Rattle.world.specs.Calls.{Attempted, Call, Missed, Pulsed_at, Released, To_attempt, To_pulse, To_release, To_turn, Turned, Want}
 
@@ -49,12 +51,19 @@ turned collect before after p = record {
 abbrev pub turned_in : Bool → List Entry → List Entry → View → View
 turned_in collect before after v = record { who = map_one (turned collect before after) v.who; seen = after; told = v.told; stage = stage.Away }
 
-abbrev pub SeatMakes : View → Call → View → Type 0
-SeatMakes v (Attempted r) w = Attempts v r w
-SeatMakes v (Released b) w = Releases v b w
-SeatMakes v (Pulsed_at n clear) w = w ≡ pulses n clear v
-SeatMakes v (Turned collect before after events) w = StartsWith before v.seen × (w ≡ turned_in collect before after v)
-SeatMakes v Missed w = w ≡ missed 1 v
+-- a turn found a legal history that begins with what the seat had seen, and has of its actor the entries that it made
+pub record TurnMakes (m : MachineData) (v : View) (collect : Bool) (before after : List Entry) (w : View) : Type 0 where
+  pub begins : StartsWith before v.seen
+  pub made : ForOne (MadeIn before) v.who
+  pub legal : Legal m before
+  pub seat : w ≡ turned_in collect before after v
+
+abbrev pub SeatMakes : MachineData → View → Call → View → Type 0
+SeatMakes m v (Attempted r) w = Attempts v r w
+SeatMakes m v (Released b) w = Releases v b w
+SeatMakes m v (Pulsed_at n clear) w = w ≡ pulses n clear v
+SeatMakes m v (Turned collect before after events) w = TurnMakes m v collect before after w
+SeatMakes m v Missed w = w ≡ missed 1 v
 
 -- ---- a turn in its parts
 

@@ -6,7 +6,7 @@ ghost use Rattle.lock_table.specs.Calls.{SameSeat};
 ghost use Rattle.lock_table.specs.Views.{ForOne};
 ghost use Rattle.lock_table.specs.declared.view.SeatPhase.TheVariants as kept;
 ghost use Rattle.lock_table.specs.declared.view.Stage.TheVariants as stage;
-ghost use Rattle.machine_history.specs.Legal.{is_host};
+ghost use Rattle.machine_history.specs.Legal.{Legal, is_host};
 ghost use Rattle.world.specs.Duties.{AreLatchable, pinned};
 ghost use Rattle.world.specs.Shared.{Acts, MayAct, gathered};
 
@@ -45,7 +45,7 @@ impl<'a> World for TableWorld<'a> {
 
     ghost may = { λ w a want. (w.seat.now.table ≡ w.table.now.table.shared.table_id) × SeatMay w.table.now.table.shared.key.machine.devices w.seat.now.view a want };
 
-    ghost makes = { λ w a call w'. (w'.table.now ≡ w.table.now) × (w'.seat.ghost_name ≡ w.seat.ghost_name) × SameSeat w.seat.now w'.seat.now × SeatMakes w.seat.now.view call w'.seat.now.view };
+    ghost makes = { λ w a call w'. (w'.table.now ≡ w.table.now) × (w'.seat.ghost_name ≡ w.seat.ghost_name) × SameSeat w.seat.now w'.seat.now × SeatMakes w.table.now.table.shared.key.machine w.seat.now.view call w'.seat.now.view };
 
     fn attempt(&mut self, actor: Actor) -> Attempt {
         let _ = actor;
@@ -111,12 +111,16 @@ fn act_in<D: Duty>(
     requires hosts { is_host (D.actor_of duty.old) ≡ false → collect ≡ false }
     requires may { ForOne (MayAct (D.actor_of duty.old) collect (D.lock duty.old)) seat.old.view.who }
     ensures same { SameSeat seat.old seat.new }
+    ensures legal { Legal table.now.table.shared.key.machine seat.old.view.seen }
     ensures acts { Acts (D.does table.now.table.shared.key.machine) collect seat.old.view duty.old result seat.new.view duty.new }
 {
     let mut turn = turn;
+    let found = turn.board();
+    found.law_legal();
     let bits = gather(table, seat, &mut turn, collect);
     let acted = duty.act(turn.board(), bits);
-    turn.board().law_legal();
+    let left = turn.board();
+    left.law_legal();
     table.leave(seat, turn);
     acted
 }

@@ -11,19 +11,19 @@ use Rattle.world.proofs.table_world.act_in.Goals as goal
 
 pub leave-requires-clause-adds : goal.leave-requires-clause-adds
 leave-requires-clause-adds g c =
-    let found = ap (λ (b : BoardData). b.entries) c.board.ensures.value ∙ ap (λ t. t.board.entries) c.gather-bits.ensures.turn ∙ c.requires.found in
-    let left = ap (λ (b : BoardData). b.entries) c.board-2.ensures.value in
+    let found = ap (λ (b : BoardData). b.entries) c.board.ensures.value ∙ ap (λ t. t.board.entries) c.gather-bits.ensures.turn ∙ ap (λ (b : BoardData). b.entries) c.board-found.ensures.value ∙ c.requires.found in
+    let left = ap (λ (b : BoardData). b.entries) c.board-left.ensures.value in
     let a = g.D.Duty.actor_of c.args.duty.now in
     let lock = g.D.Duty.lock c.args.duty.now in
     let events = events_of (pinned c.gather-bits.result) in
-    let turn = subst (λ (l : List Entry). IsTurn a lock l c.board-2.result.now.entries events c.act-acted.result) found (subst (λ (l : List Entry). IsTurn a lock c.board.result.now.entries l events c.act-acted.result) (sym left) c.act-acted.ensures.rules) in
-    may_add_turn c.board-2.result.now.machine a lock c.args.collect c.args.seat.now.view c.gather-bits.new.seat.view c.board-2.result.now.entries c.gather-bits.result c.act-acted.result c.gather-bits.ensures.gathers c.requires.may c.gather-bits.ensures.nothing turn c.law_legal.ensures
+    let turn = subst (λ (l : List Entry). IsTurn a lock l c.board-left.result.now.entries events c.act-acted.result) found (subst (λ (l : List Entry). IsTurn a lock c.board.result.now.entries l events c.act-acted.result) (sym left) c.act-acted.ensures.rules) in
+    may_add_turn c.board-left.result.now.machine a lock c.args.collect c.args.seat.now.view c.gather-bits.new.seat.view c.board-left.result.now.entries c.gather-bits.result c.act-acted.result c.gather-bits.ensures.gathers c.requires.may c.gather-bits.ensures.nothing turn c.law_legal-2.ensures
 
 pub returns-clause-acts : goal.returns-clause-acts
 returns-clause-acts g c =
-    let found = ap (λ (b : BoardData). b.entries) c.board.ensures.value ∙ ap (λ t. t.board.entries) c.gather-bits.ensures.turn ∙ c.requires.found in
-    let machine = ap (λ (b : BoardData). b.machine) c.board.ensures.value ∙ ap (λ t. t.board.machine) c.gather-bits.ensures.turn ∙ c.requires.base in
-    let left = ap (λ (b : BoardData). b.entries) c.board-2.ensures.value in
+    let found = ap (λ (b : BoardData). b.entries) c.board.ensures.value ∙ ap (λ t. t.board.entries) c.gather-bits.ensures.turn ∙ ap (λ (b : BoardData). b.entries) c.board-found.ensures.value ∙ c.requires.found in
+    let machine = ap (λ (b : BoardData). b.machine) c.board.ensures.value ∙ ap (λ t. t.board.machine) c.gather-bits.ensures.turn ∙ ap (λ (b : BoardData). b.machine) c.board-found.ensures.value ∙ c.requires.base in
+    let left = ap (λ (b : BoardData). b.entries) c.board-left.ensures.value in
     let a = g.D.Duty.actor_of c.args.duty.now in
     let lock = g.D.Duty.lock c.args.duty.now in
     let events = events_of (pinned c.gather-bits.result) in
