@@ -23,9 +23,10 @@ use Rattle.lock_table.specs.declared.view.Stage.TheVariants as stage
 use Rattle.lock_table.specs.declared.view.View.{View}
 use Rattle.lock_table.specs.Plays.{Given, Lifted, Mine, PutIn, Taken}
 use Rattle.lock_table.specs.Rule.{HasTurn, IsHome, IsSomebody, Kept, Sits, slot_at}
-use Rattle.lock_table.specs.Views.{EachPart, HoldsInTurn, MayAdd, StartsWith, after_deeds, deeds_of, gave, let_go, map_one, missed, new_in, noted, parts_in, phase_of, staged, took, wrote}
+use Rattle.lock_table.specs.Views.{EachPart, HoldsInTurn, MadeIn, MayAdd, StartsWith, after_deeds, deeds_of, gave, let_go, map_one, missed, new_in, noted, parts_in, phase_of, staged, took, wrote}
 use Rattle.lock_table.proofs.Histories.{deeds_back, lets_go, means_moved, new_behind, of_more, of_others, starts_further, starts_itself}
 use Rattle.lock_table.proofs.OneStep.{own_of, set_at}
+use Rattle.lock_table.proofs.PartLists.{each_map}
 use Rattle.lock_table.proofs.Stepping.{Homes, built, others_same, still_found, still_out, still_root, still_sits, still_somebody}
 
 -- ---- stages
@@ -122,7 +123,7 @@ module _ {B X : Type 0} (lists : X → List (List Event)) (base : B → X) (entr
                 takes 0 (Some h.board),
                 ap (λ l. get_elem? l 0) h.slot,
                 taking s k id v at home away somebody h,
-                ((λ _. (h.board, based h.board h.same_base, subst (λ l. StartsWith l v.seen) (sym h.has) (k.fits id v at).seen, refl)), (λ out. absurd (out e))),
+                ((λ _. (h.board, based h.board h.same_base, subst (λ l. StartsWith l v.seen) (sym h.has) (k.fits id v at).seen, refl, subst (λ l. EachPart (MadeIn l) (parts_in v.who)) (sym h.has) (each_map (Sits k.core k.seat_of id) (MadeIn k.core.history) (λ p it. it.2.1) (parts_in v.who) (k.fits id v at).sits))), (λ out. absurd (out e))),
               )
 
           miss : get_or s.words 0 0 ≢ 0 → Goal (get_or s.words 0 0)

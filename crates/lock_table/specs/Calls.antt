@@ -20,7 +20,7 @@ use Rattle.lock_table.specs.declared.seat.Entered.TheVariants as entered
 use Rattle.lock_table.specs.declared.words.Words.{Words}
 use Rattle.lock_table.specs.Bits.{IsEvent, is_set}
 use Rattle.lock_table.specs.Rule.{IsSomebody, StandsIn}
-use Rattle.lock_table.specs.Views.{EachPart, IsOwn, StartsWith, first_view, missed, root_parts, staged, took}
+use Rattle.lock_table.specs.Views.{EachPart, IsOwn, MadeIn, StartsWith, first_view, missed, parts_in, root_parts, staged, took}
 
 -- ---- a seat
 
@@ -72,9 +72,10 @@ SameSeat s t = (t.table ≡ s.table) × (t.id ≡ s.id)
 
 -- ---- the calls
 
--- a turn, whose board begins with what the seat had seen; or the turn was out
+-- a turn, whose board begins with what the seat had seen, and has of the seat's actor the entries that it made; or the turn was
+-- out
 abbrev pub Enters : {B : Type 0} → (B → List Entry) → (B → Type 0) → View → Entered B → View → Type 0
-Enters entries is v (entered.Turn t) w = is t.board × StartsWith (entries t.board) v.seen × (w ≡ staged stage.Inside (took (entries t.board) v))
+Enters entries is v (entered.Turn t) w = is t.board × StartsWith (entries t.board) v.seen × (w ≡ staged stage.Inside (took (entries t.board) v)) × EachPart (MadeIn (entries t.board)) (parts_in v.who)
 Enters entries is v entered.Out w = w ≡ missed 1 v
 
 -- Board and words of a table that was closed stand for a sound core, with the parts that the root has. The board has the

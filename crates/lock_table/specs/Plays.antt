@@ -4,17 +4,18 @@ use Rattle.atomic_table.specs.Table.{Me, Step, rest}
 use Rattle.acpi_regs.specs.declared.entry.Entry.{Entry}
 use Rattle.lock_table.specs.declared.view.Stage.TheVariants as stage
 use Rattle.lock_table.specs.declared.view.View.{View}
-use Rattle.lock_table.specs.Views.{IsOwn, StartsWith, gave, learned, longer, missed, staged, took}
+use Rattle.lock_table.specs.Views.{EachPart, IsOwn, MadeIn, StartsWith, gave, learned, longer, missed, parts_in, staged, took}
 
 -- a seat with the slots that it holds, of a table of boards B
 abbrev pub Mine : Type 0 → Type 0
 Mine B = Me (Option B) View
 
 module _ {B : Type 0} where
-  -- The turn was home: now the seat has the slot with the board, whose history begins with all that was seen. Or it was out.
+  -- The turn was home: now the seat has the slot with the board, whose history begins with all that was seen, and has of each
+  -- actor that sits here the entries that it made. Or it was out.
   abbrev pub Taken : (B → List Entry) → (B → Type 0) → Step (Option B) → Mine B → ℕ → Mine B → Type 0
   Taken entries is st x n y =
-      (n ≡ 0 → (b : B) × is b × StartsWith (entries b) x.0.seen × (y ≡ (took (entries b) x.0, (0, Some b) ∷ x.1)))
+      (n ≡ 0 → (b : B) × is b × StartsWith (entries b) x.0.seen × (y ≡ (took (entries b) x.0, (0, Some b) ∷ x.1)) × EachPart (MadeIn (entries b)) (parts_in x.0.who))
       × (n ≢ 0 → (n ≡ 1) × (y ≡ (missed n x.0, x.1)))
 
   -- the slot is back, empty, and the board with the caller

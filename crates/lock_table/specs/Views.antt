@@ -14,6 +14,7 @@ use Rattle.acpi_regs.specs.declared.phase.Pulse.{Pulse}
 use Rattle.acpi_regs.specs.Actor.{same_actor}
 use Rattle.acpi_regs.specs.CoreEvents.{IsTurn, entry, is_holding, is_host, list_of, tried}
 use Rattle.acpi_regs.specs.CoreSound.{is_kind}
+use Rattle.acpi_regs.specs.History.{entries_of}
 use Rattle.acpi_regs.specs.Phases.{Free, Holding, Lock, Phase, Pulsed, moved}
 use Rattle.facs_word.specs.Word.{is_pending}
 use Rattle.lock_table.specs.declared.view.Occupant.{Occupant}
@@ -259,6 +260,10 @@ HoldsInTurn g who.Nobody = Unit {0}
 pub record IsOwn (v : View) : Type 0 where
   pub kinds : EachPart (λ p. is_kind p.actor (phase_of p.phase) ≡ true) (parts_in v.who)
   pub free : HoldsInTurn v.stage v.who
+
+-- the actor's entries are those in this history
+abbrev pub MadeIn : List Entry → Part → Type 0
+MadeIn history p = p.mine ≡ entries_of history p.actor
 
 -- what a turn adds, between taking it and giving it back: by the root nothing, by an actor entries of its own that a turn in
 -- its phase may add

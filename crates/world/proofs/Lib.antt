@@ -4,3 +4,4 @@ pub mod PinSets
 pub mod FreeTurns
 pub mod Giving
 pub mod Turns
+pub mod SharedTurns

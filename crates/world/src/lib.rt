@@ -18,6 +18,7 @@ mod pins;
 mod script;
 mod script_turn;
 mod serial;
+mod table_world;
 mod turn;
 mod world;
 
@@ -26,5 +27,6 @@ pub use may::{add, otherwise, where_may};
 pub use outcome::{StepOutcome, of_turn};
 pub use script::{script_step, step_deed};
 pub use serial::SerialWorld;
+pub use table_world::TableWorld;
 pub use turn::{Acted, TurnOutcome};
 pub use world::World;
