@@ -18,7 +18,8 @@ use Rattle.lock_table.specs.declared.view.SeatPhase.{SeatPhase}
 use Rattle.lock_table.specs.declared.view.SeatPhase.TheVariants as kept
 use Rattle.lock_table.specs.declared.view.Stage.TheVariants as stage
 use Rattle.lock_table.specs.declared.view.View.{View}
-use Rattle.lock_table.specs.Calls.{Pass, TableName}
+use Rattle.lock_table.specs.Calls.{Pass}
+use Rattle.lock_table.specs.Roots.{TableName}
 use Rattle.lock_table.specs.Views.{ForOne, IsFreeHost, IsSeeking, MayAdd, after_deeds, deeds_of, exchanged, gave, holding, let_go, map_one, missed, new_in, noted, phase_of, staged, took, with_one, wrote}
 use Rattle.lock_table.proofs.Histories.{deeds_back, new_behind}
 use Rattle.lock_table.proofs.QuietTurns.{adds_nothing, adds_one}

@@ -7,7 +7,8 @@ use Rattle.acpi_regs.specs.CoreEvents.{is_holding, is_latch, may_add}
 use Rattle.lock_table.specs.declared.view.Part.{Part}
 use Rattle.lock_table.specs.declared.view.SeatPhase.{SeatPhase}
 use Rattle.lock_table.specs.declared.view.Stage.TheVariants as stage
-use Rattle.lock_table.specs.Calls.{Pass, TableName}
+use Rattle.lock_table.specs.Calls.{Pass}
+use Rattle.lock_table.specs.Roots.{TableName}
 use Rattle.lock_table.specs.Views.{IsRoot, phase_of}
 use Rattle.global_lock.specs.Phases.{IsSeatOf}
 

@@ -24,10 +24,6 @@ use Rattle.lock_table.specs.Views.{EachPart, IsOwn, MadeIn, StartsWith, first_vi
 
 -- ---- a seat
 
--- which table it is
-abbrev pub TableName : Type 0
-TableName = TableId
-
 -- the table, the seat's number there, and what it knows
 pub record Pass : Type 0 where
   pub table : TableId

@@ -1,9 +1,14 @@
--- Which actors the root of a table has.
+-- Which table it is, and which actors its root has.
 use Rattle.std.specs.Prelude.{◌≡◌, ◌||◌, Bool, true, false, List, [], ◌∷◌, Some}
+use Rattle.atomic_table.specs.Seated.{TableId}
 use Rattle.acpi_regs.specs.declared.actor.Actor.{Actor}
 use Rattle.acpi_regs.specs.Actor.{same_actor}
 use Rattle.lock_table.specs.declared.view.View.{View}
 use Rattle.lock_table.specs.Views.{HasActor, find, fresh, is_known, root_parts}
+
+-- which table it is
+abbrev pub TableName : Type 0
+TableName = TableId
 
 abbrev pub is_among : Actor → List Actor → Bool
 is_among a [] = false
