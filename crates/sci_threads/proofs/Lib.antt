@@ -5,3 +5,5 @@ pub mod Placing
 pub mod RowSteps
 pub mod Rows
 pub mod Served
+pub mod OwnEntries
+pub mod SeatSteps

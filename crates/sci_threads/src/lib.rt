@@ -11,7 +11,9 @@ mod actors;
 mod any;
 pub mod laws;
 mod rounds;
+mod shared;
 
 pub use actors::all_actors;
 pub use any::AnyActor;
 pub use rounds::{drain, run_schedule, step_of};
+pub use shared::ActorSeat;
