@@ -1,3 +1,4 @@
 pub mod Actors
 pub mod Rounds
+pub mod Seats
 pub mod Shared

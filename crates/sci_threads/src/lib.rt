@@ -11,9 +11,11 @@ mod actors;
 mod any;
 pub mod laws;
 mod rounds;
+mod seats;
 mod shared;
 
 pub use actors::all_actors;
 pub use any::AnyActor;
+pub use seats::{join_all, prepare};
 pub use rounds::{drain, run_schedule, step_of};
 pub use shared::ActorSeat;
