@@ -1,5 +1,5 @@
 -- What a pulse and a collect make of the pin words, as sets of events.
-use Rattle.std.proofs.Common.{◌≡◌, ◌≢◌, ◌⊎◌, inl, inr, ℕ, ◌<◌, ◌==◌, ◌||◌, ◌&&◌, not, nat_lt, Bool, true, false, ◌*◌, ◌%◌, ◌^◌, List, [], ◌∷◌, ◌++◌, suc, zero, length, get_or, slice_set, bit_or, refl, ap, sym, ◌∙◌, arith, get_or-set_other}
+use Rattle.std.proofs.Common.{◌≡◌, ◌≢◌, ◌⊎◌, inl, inr, ℕ, ◌<◌, ◌==◌, ◌||◌, ◌&&◌, not, nat_lt, Bool, true, false, ◌*◌, ◌%◌, ◌+◌, ◌^◌, List, [], ◌∷◌, ◌++◌, suc, zero, length, get_or, slice_set, bit_or, refl, ap, sym, ◌∙◌, arith, get_or-set_other}
 use Rattle.std.proofs.lemmas.Bool.{cases_eq, cases_order, ne_eqb, eq-eqb, lt-ltb, le-ltb, or_left, or_right, or_from, false_from_ne_true}
 use Rattle.std.proofs.lemmas.Grind.{get_or-set_at}
 use Rattle.std.proofs.lemmas.List.{get_or_push, length_push}
@@ -117,7 +117,7 @@ hand_more words hand w n at is = λ i x. by_word x (cases_eq (word_of x) w) i
         ∙ ap (λ b. pins_of hand x || (pins_of words x && b)) (sym (ne_eqb (word_of x) w other))
 
 -- and the next word is one of those that were collected
-pub words_more : (hand : List ℕ) (w n : ℕ) → w ≡ length hand → (λ u. nat_lt u (length (hand ++ n ∷ []))) ≡ (λ u. nat_lt u (length hand) || (u == w))
+pub words_more : (hand : List ℕ) (w n : ℕ) → w ≡ length hand → ◌≡◌ {A = ℕ → Bool} (λ u. nat_lt u (length (hand ++ n ∷ []))) (λ u. nat_lt u (length hand) || (u == w))
 words_more hand w n at = λ i u. ((ap (λ k. nat_lt u k) (length_push hand n)) ∙ by_word u (cases_order u (length hand))) i
   where
     by_word : (u : ℕ) → (u ≡ length hand) ⊎ ((u < length hand) ⊎ (length hand < u)) → nat_lt u (length hand + 1) ≡ (nat_lt u (length hand) || (u == w))

@@ -2,7 +2,7 @@
 --
 -- Word 0 is 0 where the turn is home and 1 where it is out. Word 1 is the Global Lock's, and five pin words follow. The slot has
 -- the board while the turn is home.
-use Rattle.std.specs.Prelude.{ℕ, ◌≡◌, ◌≢◌, Bool, true, false, List, [], ◌∷◌, length, reverse, Option, Some, None, IsSome}
+use Rattle.std.specs.Prelude.{ℕ, ◌≡◌, ◌≢◌, true, List, [], ◌∷◌, length, Option, Some, None, IsSome}
 use mathlib.Core.Option as m
 use lib.ListN.{get_elem?}
 use Rattle.atomic_table.specs.Table.{State}
@@ -10,7 +10,6 @@ use Rattle.acpi_regs.specs.declared.actor.Actor.{Actor}
 use Rattle.acpi_regs.specs.declared.entry.Entry.{Entry}
 use Rattle.acpi_regs.specs.declared.event.Event.{Event}
 use Rattle.acpi_regs.specs.Core.{Core}
-use Rattle.acpi_regs.specs.CoreEvents.{is_holding}
 use Rattle.acpi_regs.specs.CoreSound.{CoreSound}
 use Rattle.acpi_regs.specs.History.{entries_of}
 use Rattle.lock_table.specs.declared.view.Occupant.{Occupant}
@@ -20,7 +19,7 @@ use Rattle.lock_table.specs.declared.view.Stage.{Stage}
 use Rattle.lock_table.specs.declared.view.Stage.TheVariants as stage
 use Rattle.lock_table.specs.declared.view.View.{View}
 use Rattle.lock_table.specs.Pins.{pins_of}
-use Rattle.lock_table.specs.Views.{EachPart, StartsWith, find, is_known, parts_in, phase_of}
+use Rattle.lock_table.specs.Views.{EachPart, HoldsInTurn, StartsWith, find, is_known, parts_in, phase_of}
 
 -- the part has its actor's phase, and the entries that the actor made
 abbrev pub StandsIn : Core → Part → Type 0
@@ -62,8 +61,7 @@ module _ {B : Type 0} where
     pub sits : EachPart (Sits core seat_of j) (parts_in v.who)
     pub root : RootIs j v.who
     pub holds : v.stage ≢ stage.Away → HasTurn turn holder core.history homes j v
-    -- pins are held in a turn alone
-    pub free : v.stage ≡ stage.Away → EachPart (λ p. is_holding (phase_of p.phase) ≡ false) (parts_in v.who)
+    pub free : HoldsInTurn v.stage v.who
 
 -- ---- the table
 

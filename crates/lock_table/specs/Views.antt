@@ -2,16 +2,17 @@
 --
 -- A seat knows the entries that it has seen, and of its actor the phase, the entries that the actor made, how often it tried,
 -- what the last try found, and how many pin words it collected.
-use Rattle.std.specs.Prelude.{ℕ, zero, suc, ◌≡◌, ◌+◌, ◌==◌, nat_lt, nat_le, Bool, true, false, List, [], ◌∷◌, ◌++◌, length, drop, map, reverse, Option, Some, None, IsSome, if◌then◌else◌}
+use Rattle.std.specs.Prelude.{ℕ, zero, suc, ◌≡◌, ◌+◌, ◌==◌, nat_lt, nat_le, Bool, true, false, List, [], ◌∷◌, ◌++◌, length, drop, map, reverse, Option, Some, None, IsSome, slice_get, if◌then◌else◌}
 use Rattle.acpi_regs.specs.declared.actor.Actor.{Actor}
 use Rattle.acpi_regs.specs.declared.actor.Actor.TheVariants as actor
 use Rattle.acpi_regs.specs.declared.entry.Deed.{Deed}
 use Rattle.acpi_regs.specs.declared.entry.Entry.{Entry}
 use Rattle.acpi_regs.specs.declared.event.Event.{Event}
+use Rattle.acpi_regs.specs.declared.phase.LockPhase.{LockPhase}
 use Rattle.acpi_regs.specs.declared.phase.LockPhase.TheVariants as lock
 use Rattle.acpi_regs.specs.declared.phase.Pulse.{Pulse}
 use Rattle.acpi_regs.specs.Actor.{same_actor}
-use Rattle.acpi_regs.specs.CoreEvents.{IsTurn, entry, is_holding, tried}
+use Rattle.acpi_regs.specs.CoreEvents.{IsTurn, entry, is_holding, is_host, list_of, tried}
 use Rattle.acpi_regs.specs.CoreSound.{is_kind}
 use Rattle.acpi_regs.specs.Phases.{Free, Holding, Lock, Phase, Pulsed, moved}
 use Rattle.facs_word.specs.Word.{is_pending}
@@ -245,13 +246,58 @@ HasActor a v = IsSome (find a (root_parts v.who))
 abbrev pub HasAll : View → Type 0
 HasAll v = (a : Actor) → is_known a ≡ true → HasActor a v
 
--- each phase is of its actor's kind, and away from the table nobody holds pins
+abbrev pub NotHolding : Part → Type 0
+NotHolding p = is_holding (phase_of p.phase) ≡ false
+
+-- pins are held by one whose seat has the turn
+abbrev pub HoldsInTurn : Stage → Occupant → Type 0
+HoldsInTurn g (who.Root ps) = EachPart NotHolding ps
+HoldsInTurn g (who.One p) = g ≡ stage.Away → NotHolding p
+HoldsInTurn g who.Nobody = Unit {0}
+
+-- each phase is of its actor's kind, and without the turn nobody holds pins
 pub record IsOwn (v : View) : Type 0 where
   pub kinds : EachPart (λ p. is_kind p.actor (phase_of p.phase) ≡ true) (parts_in v.who)
-  pub free : v.stage ≡ stage.Away → EachPart (λ p. is_holding (phase_of p.phase) ≡ false) (parts_in v.who)
+  pub free : HoldsInTurn v.stage v.who
 
 -- what a turn adds, between taking it and giving it back: by the root nothing, by an actor entries of its own that a turn in
 -- its phase may add
 abbrev pub MayAdd : Occupant → List Entry → List Entry → Type 0
 MayAdd (who.One p) seen after = (deeds : List Deed) × (after ≡ seen ++ map (entry p.actor) deeds) × IsTurn (phase_of p.phase) (reverse seen) p.actor deeds
 MayAdd _ seen after = after ≡ seen
+
+-- ---- phases that a step asks for
+
+-- it competes for the Global Lock, and has loaded this word or none
+abbrev pub IsSeeking : Part → Type 0
+IsSeeking p = (l : Option ℕ) × (p.phase ≡ kept.Lock (lock.Seeking l))
+
+-- it has loaded the lock's word, which was l
+abbrev pub HasLoaded : ℕ → Part → Type 0
+HasLoaded l p = p.phase ≡ kept.Lock (lock.Seeking (Some l))
+
+-- it has disowned the lock, and not released its word
+abbrev pub IsQuit : Part → Type 0
+IsQuit p = p.phase ≡ kept.Lock lock.Quit
+
+-- it is a device, and e the next event of its list
+abbrev pub IsNext : List (List Event) → Event → Part → Type 0
+IsNext lists e p = (d : ℕ) × (p.actor ≡ actor.Device d) × (slice_get (list_of lists d) (length (pulses_of p.phase)) ≡ Some e)
+
+-- it is int or poll, and has collected the first w pin words
+abbrev pub HasCollected : ℕ → Part → Type 0
+HasCollected w p = (is_host p.actor ≡ true) × (length (hand_of p.phase) ≡ w)
+
+-- it is int or poll, and has collected nothing
+abbrev pub IsFreeHost : Part → Type 0
+IsFreeHost p = (is_host p.actor ≡ true) × (p.phase ≡ kept.Free)
+
+-- ---- a part after a whole call of its actor
+
+-- an exchange of the lock's word found n, and left this phase
+abbrev pub exchanged : LockPhase → ℕ → Part → Part
+exchanged q n p = record { actor = p.actor; phase = kept.Lock q; mine = p.mine; tried = p.tried + 1; found = n; swept = p.swept }
+
+-- all five pin words are in hand
+abbrev pub holding : List ℕ → Part → Part
+holding hand p = record { actor = p.actor; phase = kept.Holding hand; mine = p.mine; tried = p.tried; found = p.found; swept = p.swept + 5 }
