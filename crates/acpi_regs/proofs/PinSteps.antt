@@ -10,7 +10,7 @@ use Rattle.acpi_regs.specs.declared.phase.LockPhase.TheVariants as phase
 use Rattle.acpi_regs.specs.declared.phase.Pulse.{Pulse}
 use Rattle.acpi_regs.specs.Actor.{same_actor}
 use Rattle.acpi_regs.specs.Core.{Core, all_events, first_core, no_event}
-use Rattle.acpi_regs.specs.CoreEvents.{Collect, CoreEvent, Exchange, InRange, IsTurn, Load, MayHappen, OthersFree, Pulses, Release, Turn, collected, exchanged, happens, has_collected, in_hand, is_holding, is_host, list_of, loaded, next_pulse, one, past_in, pulsed, pulses_in, tried, turned}
+use Rattle.acpi_regs.specs.CoreEvents.{Collect, CoreEvent, Exchange, InRange, IsKnown, IsTurn, Load, MayHappen, OthersFree, Pulses, Release, Turn, collected, exchanged, happens, has_collected, in_hand, is_holding, is_host, list_of, loaded, next_pulse, one, past_in, pulsed, pulses_in, tried, turned}
 use Rattle.facs_word.specs.Word.{acquired}
 use Rattle.acpi_regs.specs.CoreSound.{CoreSound, IsStart, PinsSound, all_clear, all_pulses, hands, sum_below, times_clear, times_pulsed}
 use Rattle.acpi_regs.specs.Event.{event_rank, same_event, word_of}
@@ -128,8 +128,8 @@ module _ (lists : List (List Event)) (c : Core) (k : ℕ) (x : Event) (next : ne
   start_there : (j : ℕ) → IsStart (list_of lists j) (pulses_in (after (actor.Device j)))
   start_there j = by_cases (j == k) (IsStart (list_of lists j) (pulses_in (after (actor.Device j)))) (λ is. subst (λ i. IsStart (list_of lists i) (pulses_in (after (actor.Device i)))) (sym (eqb-true j k is)) (subst (IsStart (list_of lists k)) (sym now) (start_more (list_of lists k) (pulses_in (c.phases (actor.Device k))) (record { event = x; clear = not (c.pins x) }) (h.start k) next))) (λ apart. subst (IsStart (list_of lists j)) (sym (there j apart)) (h.start j))
 
-  pub pulse_keeps : InRange lists → PinsSound lists (pulsed c k (Some x)).pins (past_in c) after
-  pulse_keeps range = record {
+  pub pulse_keeps : event_rank x < all_events → PinsSound lists (pulsed c k (Some x)).pins (past_in c) after
+  pulse_keeps known = record {
     start = start_there;
     counts = λ n. clear_more n ∙ (let old = h.counts n in let pin = pin_one n in let int = ap one (hands_there actor.Int n) in let poll = ap one (hands_there actor.Poll n) in omega arith);
     some_clear = λ n some. subst (λ y. 1 ≤ y) (sym (clear_more n)) (found n (h.some_clear n) (subst (λ y. 1 ≤ y) (pulse_more n) some));
@@ -142,7 +142,7 @@ module _ (lists : List (List Event)) (c : Core) (k : ℕ) (x : Event) (next : ne
     where
       pins_known : (n : Event) (b : Bool) → c.pins n ≡ b → (b || same_event n x) ≡ true → event_rank n < all_events
       pins_known n true was set = h.pins_known n was
-      pins_known n false was set = subst (λ y. event_rank y < all_events) (sym (event_true n x set)) (range k (length (pulses_in (c.phases (actor.Device k)))) x next)
+      pins_known n false was set = subst (λ y. event_rank y < all_events) (sym (event_true n x set)) known
 
 -- ---- a collect
 
@@ -268,13 +268,25 @@ exchange_pins lists c a l at h = either (c.word == l)
     either true = still lists c.pins (past_in c) c.phases (put a (Lock (tried l)) c.phases) (same_put a (phase.Seeking (Some l)) (tried l) c.phases at) h
     either false = still lists c.pins (past_in c) c.phases (put a (Lock (phase.Seeking None)) c.phases) (same_put a (phase.Seeking (Some l)) (phase.Seeking None) c.phases at) h
 
+pins_known_step : (lists : List (List Event)) (c : Core) (e : CoreEvent) → IsKnown lists c e → PinsOf lists c → MayHappen lists c e → PinsOf lists (happens lists c e)
+pins_known_step lists c (Load a) known h may = still lists c.pins (past_in c) c.phases (put a (Lock (phase.Seeking (Some c.word))) c.phases) (same_put a (phase.Seeking may.0) (phase.Seeking (Some c.word)) c.phases may.1) h
+pins_known_step lists c (Exchange a) known h may = subst (λ o. PinsOf lists (exchanged c a o)) (sym (ap loaded may.1)) (exchange_pins lists c a may.0 may.1 h)
+pins_known_step lists c (Release a) known h may = still lists c.pins (past_in c) c.phases (put a (Lock (phase.Gone _)) c.phases) (same_put a phase.Quit (phase.Gone _) c.phases may) h
+pins_known_step lists c (Pulses k) known h may = subst (λ o. PinsOf lists (pulsed c k o)) (sym may.1) (pulse_keeps lists c k may.0 may.1 h (known may.0 may.1))
+pins_known_step lists c (Collect a w) known h may = collect_keeps lists c a w may.0 may.1 may.2 h
+pins_known_step lists c (Turn a ds) known h may = turned_pins lists c a ds may.1.latches h
+
+-- each event of these lists is one that there is
+pub all_known : (lists : List (List Event)) (c : Core) (e : CoreEvent) → InRange lists → IsKnown lists c e
+all_known lists c (Load a) range = tt
+all_known lists c (Exchange a) range = tt
+all_known lists c (Release a) range = tt
+all_known lists c (Pulses k) range = λ n next. range k (length (pulses_in (c.phases (actor.Device k)))) n next
+all_known lists c (Collect a w) range = tt
+all_known lists c (Turn a ds) range = tt
+
 pub pins_step : (lists : List (List Event)) (c : Core) (e : CoreEvent) → InRange lists → PinsOf lists c → MayHappen lists c e → PinsOf lists (happens lists c e)
-pins_step lists c (Load a) range h may = still lists c.pins (past_in c) c.phases (put a (Lock (phase.Seeking (Some c.word))) c.phases) (same_put a (phase.Seeking may.0) (phase.Seeking (Some c.word)) c.phases may.1) h
-pins_step lists c (Exchange a) range h may = subst (λ o. PinsOf lists (exchanged c a o)) (sym (ap loaded may.1)) (exchange_pins lists c a may.0 may.1 h)
-pins_step lists c (Release a) range h may = still lists c.pins (past_in c) c.phases (put a (Lock (phase.Gone _)) c.phases) (same_put a phase.Quit (phase.Gone _) c.phases may) h
-pins_step lists c (Pulses k) range h may = subst (λ o. PinsOf lists (pulsed c k o)) (sym may.1) (pulse_keeps lists c k may.0 may.1 h range)
-pins_step lists c (Collect a w) range h may = collect_keeps lists c a w may.0 may.1 may.2 h
-pins_step lists c (Turn a ds) range h may = turned_pins lists c a ds may.1.latches h
+pins_step lists c e range = pins_known_step lists c e (all_known lists c e range)
 
 pub first_pins : (lists : List (List Event)) → PinsSound lists no_event [] first_phase
 first_pins lists = record {
@@ -314,8 +326,11 @@ first_pins lists = record {
 
 -- ---- the core
 
+pub core_known_step : (lists : List (List Event)) (c : Core) (e : CoreEvent) → IsKnown lists c e → CoreSound lists c → MayHappen lists c e → CoreSound lists (happens lists c e)
+core_known_step lists c e known h may = record { kinds = kinds_step lists c e h.kinds may; lock = lock_step lists c e h.kinds h.lock may; pinned = pins_known_step lists c e known h.pinned may }
+
 pub core_step : (lists : List (List Event)) (c : Core) (e : CoreEvent) → InRange lists → CoreSound lists c → MayHappen lists c e → CoreSound lists (happens lists c e)
-core_step lists c e range h may = record { kinds = kinds_step lists c e h.kinds may; lock = lock_step lists c e h.kinds h.lock may; pinned = pins_step lists c e range h.pinned may }
+core_step lists c e range = core_known_step lists c e (all_known lists c e range)
 
 pub core_turn : (lists : List (List Event)) (c : Core) (a : Actor) (ds : List Deed) → CoreSound lists c → IsTurn (c.phases a) (past_in c) a ds → CoreSound lists (turned c a ds)
 core_turn lists c a ds h is = record { kinds = turned_kinds c a ds h.kinds; lock = turned_lock c a ds h.kinds is.few is.each h.lock; pinned = turned_pins lists c a ds is.latches h.pinned }

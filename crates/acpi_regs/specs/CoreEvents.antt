@@ -154,6 +154,11 @@ MayHappen lists c (Pulses k) = (n : Event) × (next_pulse lists c k ≡ Some n)
 MayHappen lists c (Collect a w) = (is_host a ≡ true) × OthersFree c.phases a × (has_collected (c.phases a) w ≡ false)
 MayHappen lists c (Turn a deeds) = OthersFree c.phases a × IsTurn (c.phases a) (past_in c) a deeds
 
+-- where it pulses an event, that is one that there is
+abbrev pub IsKnown : List (List Event) → Core → CoreEvent → Type 0
+IsKnown lists c (Pulses k) = (n : Event) → next_pulse lists c k ≡ Some n → event_rank n < all_events
+IsKnown lists c _ = Unit {0}
+
 -- ---- what it leaves
 
 -- an exchange changes the word where it is still the loaded one, which is forgotten where it is not

@@ -1,6 +1,6 @@
 -- Each act that is left for an actor is one that the actor may make.
-use Rattle.std.proofs.Common.{ℕ, zero, suc, ◌+◌, ◌≡◌, ◌==◌, ◌&&◌, Bool, true, false, not, List, [], ◌∷◌, ◌++◌, length, slice_get, unwrap_or, Option, Some, None, is_some, refl, sym, ap, ◌∙◌, subst, if◌then◌else◌}
-use Rattle.std.proofs.lemmas.Bool.{and_parts, lt-ltb, not-false, not-true}
+use Rattle.std.proofs.Common.{ℕ, zero, suc, ◌≡◌, ◌==◌, ◌&&◌, Bool, true, false, not, List, [], ◌∷◌, ◌++◌, length, slice_get, unwrap_or, Option, Some, None, is_some, refl, sym, ap, ◌∙◌, subst, if◌then◌else◌}
+use Rattle.std.proofs.lemmas.Bool.{lt-ltb}
 use Rattle.std.proofs.lemmas.Option.{slice_get_within}
 use Rattle.acpi_regs.specs.declared.actor.Actor.{Actor}
 use Rattle.acpi_regs.specs.declared.actor.Actor.TheVariants as actor
@@ -10,31 +10,23 @@ use Rattle.acpi_regs.specs.declared.entry.Deed.{Deed}
 use Rattle.acpi_regs.specs.declared.entry.Deed.TheVariants as deed
 use Rattle.acpi_regs.specs.declared.entry.Entry.{Entry}
 use Rattle.acpi_regs.specs.declared.event.Event.{Event}
-use Rattle.acpi_regs.specs.declared.event.Listed.{Listed}
 use Rattle.acpi_regs.specs.Actor.{same_actor}
 use Rattle.acpi_regs.specs.CoreEvents.{entry}
 use Rattle.acpi_regs.specs.Event.{same_event}
-use Rattle.field_units.specs.declared.rules.RegionKind.{RegionKind}
-use Rattle.field_units.specs.declared.rules.RegionKind.TheVariants as region_kind
-use Rattle.field_units.specs.Field.{Field, is_controller}
 use Rattle.handler_script.specs.declared.act.Act.{Act}
 use Rattle.handler_script.specs.declared.act.Act.TheVariants as act
-use Rattle.handler_script.specs.declared.fault.ScriptFault.{ScriptFault}
-use Rattle.handler_script.specs.declared.fault.ScriptFault.TheVariants as fault
 use Rattle.handler_script.specs.declared.op.Op.{Op}
-use Rattle.handler_script.specs.declared.op.Op.TheVariants as op
-use Rattle.handler_script.specs.Accepts.{faults_from, first_of, is_allowed, is_balanced, is_known, is_sound_skip, open_after, script_fault}
-use Rattle.handler_script.specs.Each.{Each, IsTrueOn, act_alone}
-use Rattle.handler_script.specs.Parts.{access_needs, bursts, read_in, write_in}
-use Rattle.handler_script.specs.Plan.{next_act, plan}
-use Rattle.handler_script.proofs.Each.{each}
+use Rattle.handler_script.specs.Each.{Each}
+use Rattle.handler_script.specs.Plan.{Plan, Do, End, next_act, plan}
 use Rattle.machine_desc.specs.declared.machine.ControllerDesc.{ControllerDesc}
 use Rattle.machine_desc.specs.declared.machine.ListedEvent.{ListedEvent}
 use Rattle.machine_desc.specs.declared.machine.Query.{Query}
-use Rattle.machine_desc.specs.Kept.{IsField, IsHandler, IsListed, IsMachine, IsQuery, IsRegion, event_of_controller, listed_in, own_event, queries_in}
+use Rattle.machine_desc.specs.Kept.{IsHandler, IsListed, IsMachine, IsQuery, event_of_controller, listed_in, own_event, queries_in}
 use Rattle.machine_desc.specs.Machine.{MachineData}
-use Rattle.machine_desc.specs.Rules.{forbids, is_listed}
+use Rattle.machine_desc.specs.Rules.{is_listed}
+use Rattle.machine_desc.specs.Scripts.{suits_side}
 use Rattle.machine_desc.proofs.EachItem.{each_all}
+use Rattle.machine_desc.proofs.Scripts.{runs_well}
 use Rattle.machine_history.specs.declared.parts.Job.{Job}
 use Rattle.machine_history.specs.declared.parts.Job.TheVariants as job
 use Rattle.machine_history.specs.Jobs.{and_job, claimed_job, is_empty, jobs, made, made_by, taken_job}
@@ -56,91 +48,42 @@ suits m a needs (act.Assert n) = is_firmware m a
 suits m a needs (act.Push q) = is_firmware m a && is_some (own_event m)
 suits m a needs _ = true
 
--- ---- what a side's script may have
+-- ---- the scripts of a machine
 
-abbrev runs_side : MachineData → Actor → Side → Type 0
+abbrev pub runs_side : MachineData → Actor → Side → Type 0
 runs_side m a side.Os = is_worker m a ≡ true
 runs_side m a side.Firmware = is_firmware m a ≡ true
-
-verdict_passes : (a k s b : Bool) (i : ℕ) (later : Option ScriptFault) → first_of (if a then (if k then (if s then (if b then None else Some (fault.Unbalanced i)) else Some (fault.BadSkip i)) else Some (fault.UnknownField i)) else Some (fault.NotAllowed i)) later ≡ None → (a ≡ true) × (later ≡ None)
-verdict_passes true true true true i later e = (refl, e)
-verdict_passes true true true false i later e = cc
-verdict_passes true true false b i later e = cc
-verdict_passes true false s b i later e = cc
-verdict_passes false k s b i later e = cc
-
-op_allowed : (forbidden : Op → Bool) (of_side : Side) (count : ℕ) (hold : Option ℕ) (i : ℕ) (ops : List Op) → faults_from forbidden of_side count hold i ops ≡ None → (j : ℕ) (o : Op) → slice_get ops j ≡ Some o → (is_allowed of_side o ≡ true) × (forbidden o ≡ false)
-op_allowed forbidden of_side count hold i [] none j o at = cc
-op_allowed forbidden of_side count hold i (x ∷ ops) none zero o at =
-    let p = verdict_passes (is_allowed of_side x && not (forbidden x)) (is_known count x) (is_sound_skip x ops) (is_balanced (is_some hold) x) i (faults_from forbidden of_side count (open_after i x hold) (i + 1) ops) none in
-    let q = and_parts (is_allowed of_side x) (not (forbidden x)) p.0 in
-    let same = some-injective x o at in
-    (ap (is_allowed of_side) (sym same) ∙ q.0, ap forbidden (sym same) ∙ not-true (forbidden x) q.1)
-op_allowed forbidden of_side count hold i (x ∷ ops) none (suc j) o at =
-    op_allowed forbidden of_side count (open_after i x hold) (i + 1) ops (verdict_passes (is_allowed of_side x && not (forbidden x)) (is_known count x) (is_sound_skip x ops) (is_balanced (is_some hold) x) i (faults_from forbidden of_side count (open_after i x hold) (i + 1) ops) none).1 j o at
-
-up_listed : (listed : List Listed) (own : Option Event) (n : Event) → forbids listed own (op.Up n) ≡ false → is_listed listed n ≡ true
-unfolding forbids
-up_listed listed own n may = not-false (is_listed listed n) may
-
-push_owned : (listed : List Listed) (own : Option Event) (q : ℕ) → forbids listed own (op.Push q) ≡ false → is_some own ≡ true
-unfolding forbids
-push_owned listed own q may = not-false (is_some own) may
 
 both_true : (x y : Bool) → x ≡ true → y ≡ true → (x && y) ≡ true
 both_true x y p q = ap (λ z. z && y) p ∙ q
 
-alone_suits : (m : MachineData) (a : Actor) (s : Side) → runs_side m a s → (o : Op) (x : Act) → is_allowed s o ≡ true → forbids (listed_in m) (own_event m) o ≡ false → act_alone o ≡ Some x → suits m a false x ≡ true
-alone_suits m a s runs (op.Read f) x ok may is = cc
-alone_suits m a s runs (op.Write f v) x ok may is = cc
-alone_suits m a s runs (op.Add f v) x ok may is = cc
-alone_suits m a s runs (op.Skip v k) x ok may is = cc
-alone_suits m a s runs op.Hold x ok may is = subst (λ y. suits m a false y ≡ true) (some-injective act.Lock x is) refl
-alone_suits m a s runs op.Free x ok may is = subst (λ y. suits m a false y ≡ true) (some-injective act.Unlock x is) refl
-alone_suits m a side.Os runs (op.Notify d v) x ok may is = subst (λ y. suits m a false y ≡ true) (some-injective (act.Notify d v) x is) runs
-alone_suits m a side.Firmware runs (op.Notify d v) x ok may is = cc
-alone_suits m a s runs (op.Drop n) x ok may is = subst (λ y. suits m a false y ≡ true) (some-injective (act.Drop n) x is) refl
-alone_suits m a side.Os runs (op.Up n) x ok may is = subst (λ y. suits m a false y ≡ true) (some-injective (act.Up n) x is) (both_true (is_worker m a) (is_listed (listed_in m) n) runs (up_listed (listed_in m) (own_event m) n may))
-alone_suits m a side.Firmware runs (op.Up n) x ok may is = cc
-alone_suits m a side.Os runs (op.Down n) x ok may is = subst (λ y. suits m a false y ≡ true) (some-injective (act.Down n) x is) runs
-alone_suits m a side.Firmware runs (op.Down n) x ok may is = cc
-alone_suits m a side.Firmware runs (op.Raise n) x ok may is = subst (λ y. suits m a false y ≡ true) (some-injective (act.Raise n) x is) runs
-alone_suits m a side.Os runs (op.Raise n) x ok may is = cc
-alone_suits m a side.Firmware runs (op.Assert n) x ok may is = subst (λ y. suits m a false y ≡ true) (some-injective (act.Assert n) x is) runs
-alone_suits m a side.Os runs (op.Assert n) x ok may is = cc
-alone_suits m a side.Firmware runs (op.Push q) x ok may is = subst (λ y. suits m a false y ≡ true) (some-injective (act.Push q) x is) (both_true (is_firmware m a) (is_some (own_event m)) runs (push_owned (listed_in m) (own_event m) q may))
-alone_suits m a side.Os runs (op.Push q) x ok may is = cc
+-- what suits a side suits an actor that runs it
+suits_actor : (m : MachineData) (a : Actor) (s : Side) → runs_side m a s → (needs : Bool) (x : Act) → suits_side m s needs x ≡ true → suits m a needs x ≡ true
+suits_actor m a s runs needs act.Lock suited = refl
+suits_actor m a s runs needs act.Unlock suited = refl
+suits_actor m a s runs needs (act.Read c) suited = refl
+suits_actor m a s runs needs (act.Write c v) suited = refl
+suits_actor m a s runs needs (act.Ask r) suited = suited
+suits_actor m a side.Os runs needs (act.Notify d v) suited = runs
+suits_actor m a side.Firmware runs needs (act.Notify d v) suited = cc
+suits_actor m a s runs needs (act.Drop n) suited = refl
+suits_actor m a side.Os runs needs (act.Up n) suited = both_true (is_worker m a) (is_listed (listed_in m) n) runs suited
+suits_actor m a side.Firmware runs needs (act.Up n) suited = cc
+suits_actor m a side.Os runs needs (act.Down n) suited = runs
+suits_actor m a side.Firmware runs needs (act.Down n) suited = cc
+suits_actor m a side.Os runs needs (act.Raise n) suited = cc
+suits_actor m a side.Firmware runs needs (act.Raise n) suited = runs
+suits_actor m a side.Os runs needs (act.Assert n) suited = cc
+suits_actor m a side.Firmware runs needs (act.Assert n) suited = runs
+suits_actor m a side.Os runs needs (act.Push q) suited = cc
+suits_actor m a side.Firmware runs needs (act.Push q) suited = both_true (is_firmware m a) (is_some (own_event m)) runs suited
 
--- ---- fields: one of the controller's stands beside a controller
-
-field_controls : (m : MachineData) → IsMachine m → (f : ℕ) (field : Field) → slice_get m.fields f ≡ Some field → is_controller field.kind ≡ true → is_some m.controller ≡ true
-field_controls m ok f field at controls =
-    let is = each_all (IsField m) m.fields ok.fields f field at in
-    (each_all (IsRegion m) m.regions ok.regions field.region is.region is.named).owner (ap is_controller (sym is.kind) ∙ controls)
-
-read_suits : (m : MachineData) (a : Actor) (needs : Bool) (k : RegionKind) (field : Field) (i : ℕ) → (is_controller k ≡ true → is_some m.controller ≡ true) → suits m a needs (read_in k field i) ≡ true
-read_suits m a needs region_kind.Memory field i controls = refl
-read_suits m a needs region_kind.Controller field i controls = controls refl
-
-write_suits : (m : MachineData) (a : Actor) (needs : Bool) (k : RegionKind) (field : Field) (i byte : ℕ) → (is_controller k ≡ true → is_some m.controller ≡ true) → suits m a needs (write_in k field i byte) ≡ true
-write_suits m a needs region_kind.Memory field i byte controls = refl
-write_suits m a needs region_kind.Controller field i byte controls = controls refl
-
-field_suits : (m : MachineData) (a : Actor) → IsMachine m → (f : ℕ) (field : Field) → slice_get m.fields f ≡ Some field → IsTrueOn (suits m a) field
-field_suits m a ok f field at = record {
-  lock = λ n. (refl, refl);
-  burst = λ b. (let has = field_controls m ok f field at (bursting (field.kind) b) in (has, has));
-  read = λ held k below. read_suits m a (access_needs field held) field.kind field k (field_controls m ok f field at);
-  write = λ held k byte below. write_suits m a (access_needs field held) field.kind field k byte (field_controls m ok f field at);
-}
-  where
-    bursting : (k : RegionKind) → bursts (record field { kind = k }) ≡ true → is_controller k ≡ true
-    bursting region_kind.Memory b = cc
-    bursting region_kind.Controller b = refl
+each_more : (P Q : Bool → Act → Bool) (p : Plan) → ((needs : Bool) (x : Act) → P needs x ≡ true → Q needs x ≡ true) → Each P p → Each Q p
+each_more P Q End more each = tt
+each_more P Q (Do needs x next) more each = (more needs x each.0, λ byte. each_more P Q (next byte) more (each.1 byte))
 
 script_suits : (m : MachineData) (a : Actor) (s : Side) (ops : List Op) → IsMachine m → runs_side m a s → IsHandler m s ops → Each (suits m a) (plan m.fields ops)
-unfolding script_fault
-script_suits m a s ops ok runs handler = each (suits m a) m.fields ops (field_suits m a ok) (λ i o x at is. (let may = op_allowed (forbids (listed_in m) (own_event m)) s (length m.fields) None 0 ops handler.faultless i o at in alone_suits m a s runs o x may.0 may.1 is))
+script_suits m a s ops ok runs handler = each_more (suits_side m s) (suits m a) (plan m.fields ops) (suits_actor m a s runs) (runs_well m ok s ops handler).suited
 
 -- ---- the plans of jobs and of firmware
 

@@ -1,1 +1,16 @@
+pub mod Attempts
+pub mod Closing
+pub mod Collecting
+mod Histories
+pub mod Joining
+pub mod LockWord
+pub mod OneStep
+pub mod Opening
+pub mod PartLists
+pub mod PinWord
+pub mod PinWords
 mod Places
+pub mod SeatFacts
+pub mod Splitting
+pub mod Stepping
+pub mod TurnSteps

@@ -13,13 +13,13 @@ use Rattle.lock_table.specs.declared.words.Bits.{Bits}
 use Rattle.lock_table.specs.Bits.{is_set}
 
 -- a bit of a word in which one bit is set
-bit_put : (w k i : ℕ) → k < 64 → (bit_at (bit_or w (1 * 2 ^ k % 2 ^ 64)) i == 1) ≡ ((i == k) || (bit_at w i == 1))
+pub bit_put : (w k i : ℕ) → k < 64 → (bit_at (bit_or w (1 * 2 ^ k % 2 ^ 64)) i == 1) ≡ ((i == k) || (bit_at w i == 1))
 bit_put w k i h = elim (cases_eq i k) [
   | inl e ↦ ap (λ x. x == 1) (ap (bit_at (bit_or w (1 * 2 ^ k % 2 ^ 64))) e ∙ bit_at_set_same w64 w k h) ∙ sym (ap (λ x. x || (bit_at w i == 1)) (eq-eqb i k e))
   | inr d ↦ ap (λ x. x == 1) (bit_at_set_other w64 w k h i d) ∙ sym (ap (λ x. x || (bit_at w i == 1)) (ne_eqb i k d))
 ]
 
-bits_same : (f g : Fixed) → (fixed_bit g == fixed_bit f) ≡ (fixed_rank f == fixed_rank g)
+pub bits_same : (f g : Fixed) → (fixed_bit g == fixed_bit f) ≡ (fixed_rank f == fixed_rank g)
 bits_same fixed.Tmr fixed.Tmr = refl
 bits_same fixed.Tmr fixed.Gbl = refl
 bits_same fixed.Tmr fixed.Pwr = refl
@@ -46,7 +46,7 @@ bits_same fixed.Rtc fixed.Pwr = refl
 bits_same fixed.Rtc fixed.Slp = refl
 bits_same fixed.Rtc fixed.Rtc = refl
 
-bit_fits : (f : Fixed) → fixed_bit f < 64
+pub bit_fits : (f : Fixed) → fixed_bit f < 64
 bit_fits fixed.Tmr = omega arith
 bit_fits fixed.Gbl = omega arith
 bit_fits fixed.Pwr = omega arith
@@ -65,7 +65,7 @@ put_fixed b f k at (event.Fixed g) =
 put_fixed b f k at (event.Gpe m) = ap (λ w. bit_at w (m % 64) == 1) (get_more _ b.gpe (m / 64) ∙ sym (get_more b.fixed b.gpe (m / 64)))
 
 -- two numbers of one word are one where their bits are
-same_word : (m k : ℕ) → m / 64 ≡ k / 64 → (k % 64 == m % 64) ≡ (m == k)
+pub same_word : (m k : ℕ) → m / 64 ≡ k / 64 → (k % 64 == m % 64) ≡ (m == k)
 same_word m k e = elim (cases_eq (k % 64) (m % 64)) [
   | inl s ↦ let whole : m ≡ k = omega arith in eq-eqb (k % 64) (m % 64) s ∙ sym (eq-eqb m k whole)
   | inr d ↦ ne_eqb (k % 64) (m % 64) d ∙ sym (ne_eqb m k (λ w. d (ap (λ x. x % 64) (sym w))))

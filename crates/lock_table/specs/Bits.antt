@@ -1,9 +1,9 @@
 -- Sets of events, as five words.
-use Rattle.std.specs.Prelude.{◌≡◌, ℕ, ◌<◌, ◌==◌, Bool, List, ◌∷◌, slice_index}
-use Rattle.std.specs.Int.{bit_at}
+use Rattle.std.specs.Prelude.{◌≡◌, ℕ, ◌<◌, Bool, List, ◌∷◌}
 use Rattle.acpi_regs.specs.declared.event.Event.{Event}
 use Rattle.acpi_regs.specs.Event.{bit_of, event_rank, word_of}
 use Rattle.lock_table.specs.declared.words.Bits.{Bits}
+use Rattle.lock_table.specs.Pins.{pins_of}
 
 -- the five words: the fixed events, and the GPEs by 64
 abbrev pub words_of : Bits → List ℕ
@@ -11,7 +11,7 @@ words_of b = b.fixed ∷ b.gpe
 
 -- the event is in the set
 abbrev pub is_set : Bits → Event → Bool
-is_set b n = bit_at (slice_index (words_of b) (word_of n)) (bit_of n) == 1
+is_set b n = pins_of (words_of b) n
 
 -- the event's number is a byte
 abbrev pub IsEvent : Event → Type 0

@@ -1,15 +1,12 @@
 -- What the board keeps is what the past says: at the start, and when an allowed entry is appended.
-use Rattle.std.proofs.Common.{ℕ, zero, suc, ◌+◌, ◌-◌, ◌<◌, ◌≤◌, ◌≡◌, ◌⊎◌, inl, inr, ◌&&◌, not, Bool, true, false, cond, nat_lt, get_or, List, [], ◌∷◌, ◌++◌, length, map, reverse, slice_get, slice_index, unwrap_or, Option, Some, None, refl, sym, ◌∙◌, ap, subst, arith, length-append}
+use Rattle.std.proofs.Common.{ℕ, zero, suc, ◌+◌, ◌<◌, ◌≤◌, ◌≡◌, not, Bool, true, false, cond, nat_lt, get_or, List, [], ◌∷◌, ◌++◌, length, map, reverse, slice_get, unwrap_or, Option, Some, None, refl, sym, ◌∙◌, ap, subst, arith, length-append}
 use Rattle.std.proofs.lemmas.Bool.{and_parts, ltb-true}
 use Rattle.std.proofs.lemmas.List.{reverse-append, length-reverse}
-use Rattle.acpi_regs.specs.declared.actor.Actor.{Actor}
-use Rattle.acpi_regs.specs.declared.actor.Actor.TheVariants as actor
-use Rattle.acpi_regs.specs.declared.entry.Cell.{Cell}
 use Rattle.acpi_regs.specs.declared.entry.Entry.{Entry}
 use Rattle.acpi_regs.specs.declared.event.Event.{Event}
 use Rattle.event_chip.specs.declared.state.Slot.{Slot}
 use Rattle.event_chip.specs.declared.state.Touch.{Touch}
-use Rattle.event_chip.specs.Chip.{slot_of, touched}
+use Rattle.event_chip.specs.Chip.{touched}
 use Rattle.field_units.specs.Field.{RegionData, is_controller}
 use Rattle.machine_desc.specs.Kept.{IsMachine}
 use Rattle.machine_desc.specs.Machine.{MachineData}
@@ -18,25 +15,24 @@ use Rattle.machine_core.specs.declared.actors.Actors.{Actors}
 use Rattle.machine_core.specs.declared.events.Events.{Events}
 use Rattle.machine_core.specs.declared.jobs.Jobs.{Jobs}
 use Rattle.machine_core.specs.declared.lock.LockState.{LockState}
-use Rattle.machine_core.specs.Actors.{FitsDeed, IsActors, Moves, seat, state_of}
+use Rattle.machine_core.specs.Actors.{FitsDeed, IsActors, state_of}
 use Rattle.machine_core.specs.Board.{IsKept}
-use Rattle.machine_core.specs.Cells.{IsCells, IsIn, byte_in, bytes_in, first_bytes, kept_bytes}
-use Rattle.machine_core.specs.Events.{IsEvent, IsEvents, unlatched_after, unlatched_of}
+use Rattle.machine_core.specs.Cells.{IsCells, first_bytes, kept_bytes}
+use Rattle.machine_core.specs.Events.{IsEvents}
 use Rattle.machine_core.specs.Lock.{lock_after, lock_of}
 use Rattle.machine_core.specs.Wire.{IsWire, Takes, WireData, wire_after}
 use Rattle.machine_core.proofs.Standing.{fits_deed}
-use Rattle.machine_core.proofs.Steps.{actors_step, cells_step, events_step, jobs_step, jobs_within, starts_within}
+use Rattle.machine_core.proofs.Steps.{jobs_step, jobs_within, starts_within}
 use Rattle.machine_history.proofs.Whole.{weight_bounds}
 use Rattle.machine_core.proofs.WireRows.{wire_needs}
 use Rattle.machine_core.proofs.WireSteps.{wire_step, wire_takes}
 use Rattle.machine_history.specs.declared.parts.Touched.{Touched}
-use Rattle.machine_history.specs.Acts.{is_memory, is_memory_cell}
+use Rattle.machine_history.specs.Acts.{is_memory}
 use Rattle.machine_history.specs.Cells.{byte_at, cells_in}
 use Rattle.machine_history.specs.Events as events
-use Rattle.machine_history.specs.Jobs.{and_job, jobs, made, starts_after}
+use Rattle.machine_history.specs.Jobs.{and_job, made, starts_after}
 use Rattle.machine_history.specs.Legal.{Allowed, Legal, LegalPast}
-use Rattle.machine_history.specs.Machine.{first_slot_of, kind_of}
-use Rattle.machine_history.specs.Values.{deed_access}
+use Rattle.machine_history.specs.Machine.{kind_of}
 
 -- the newest entry of a history is allowed
 pub newest_allowed : (m : MachineData) (entries : List Entry) (e : Entry) → Legal m (entries ++ e ∷ []) → Allowed m (reverse entries) e

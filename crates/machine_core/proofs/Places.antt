@@ -1,8 +1,7 @@
 -- Where the regions, the handlers and the pulses of a machine stand.
-use Rattle.std.proofs.Common.{ℕ, zero, suc, ◌+◌, ◌-◌, ◌<◌, ◌≤◌, ◌≡◌, ◌==◌, ◌⊎◌, inl, inr, ◌&&◌, not, Bool, true, false, cond, nat_lt, get_or, List, [], ◌∷◌, length, drop, drop-cons, slice_get, slice_index, Option, Some, None, refl, sym, ◌∙◌, ap, subst, arith, slice_set, get_or-set_other, replicate}
+use Rattle.std.proofs.Common.{ℕ, zero, suc, ◌+◌, ◌<◌, ◌≤◌, ◌≡◌, ◌==◌, inl, inr, ◌&&◌, not, Bool, true, false, cond, nat_lt, get_or, List, [], ◌∷◌, length, drop, drop-cons, slice_get, Option, Some, None, refl, sym, ◌∙◌, ap, subst, arith, slice_set, get_or-set_other, replicate}
 use Rattle.std.proofs.lemmas.Bool.{and_from, and_parts, cases_eq, eq-eqb, eqb-true, ltb-true, ne_eqb}
 use Rattle.std.proofs.lemmas.Grind.{get_or-set_at}
-use Rattle.std.proofs.lemmas.List.{get_or_past}
 use Rattle.std.proofs.lemmas.Option.{slice_get-get_or}
 use Rattle.acpi_regs.specs.declared.entry.Cell.{Cell}
 use Rattle.acpi_regs.specs.declared.event.Event.{Event}
@@ -11,7 +10,7 @@ use Rattle.event_chip.proofs.Slots.{same_by_rank}
 use Rattle.field_units.specs.Field.{RegionData, is_controller}
 use Rattle.machine_desc.specs.declared.machine.ListedEvent.{ListedEvent}
 use Rattle.machine_desc.specs.declared.machine.Query.{Query}
-use Rattle.machine_desc.specs.Kept.{IsMachine, IsRegion, both_controllers}
+use Rattle.machine_desc.specs.Kept.{IsMachine, IsRegion}
 use Rattle.machine_desc.specs.Machine.{MachineData}
 use Rattle.machine_desc.proofs.EachItem.{each_all}
 use Rattle.machine_core.specs.Actors.{handler_of, query_handler_of}

@@ -1,5 +1,5 @@
 -- What is kept of the actors at the start.
-use Rattle.std.proofs.Common.{ℕ, ◌+◌, ◌<◌, ◌≤◌, ◌≡◌, ◌⊎◌, inl, inr, Bool, true, false, cond, nat_lt, get_or, List, [], length, slice_get, slice_set, replicate, unwrap_or, Option, Some, None, refl, sym, ◌∙◌, ap, subst, arith, get_or-set_other}
+use Rattle.std.proofs.Common.{ℕ, ◌+◌, ◌<◌, ◌≤◌, ◌≡◌, inl, inr, Bool, true, false, cond, nat_lt, get_or, List, [], length, slice_get, slice_set, replicate, unwrap_or, Option, Some, None, refl, sym, ◌∙◌, subst, arith, get_or-set_other}
 use Rattle.std.proofs.lemmas.Bool.{cases_eq, ltb-false, ltb-true}
 use Rattle.std.proofs.lemmas.Grind.{get_or-set_at}
 use Rattle.std.proofs.lemmas.List.{get_or_past, get_or-replicate, length-set}
@@ -11,7 +11,6 @@ use Rattle.handler_script.specs.Plan.{plan}
 use Rattle.machine_desc.specs.Kept.{IsMachine}
 use Rattle.machine_desc.specs.Machine.{MachineData}
 use Rattle.machine_core.specs.declared.actors.ActorState.{ActorState}
-use Rattle.machine_core.specs.declared.actors.Actors.{Actors}
 use Rattle.machine_core.specs.Actors.{IsActor, IsActors, IsFirst, idle, plan_in, state_of}
 use Rattle.machine_history.specs.Scripts.{first_plan}
 

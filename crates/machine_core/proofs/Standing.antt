@@ -1,20 +1,19 @@
 -- Where an actor stands in a legal history: what its next act is while it tries for the lock or has a transaction open, and
 -- that what it makes fits that act.
-use Rattle.std.proofs.Common.{ℕ, ◌+◌, ◌<◌, ◌≤◌, ◌≡◌, ◌==◌, ◌||◌, ◌&&◌, not, Bool, true, false, cond, nat_lt, List, [], ◌∷◌, length, slice_get, unwrap_or, Option, Some, None, MatchOption, is_some, is_none, refl, sym, ◌∙◌, ap, subst, arith}
-use Rattle.std.proofs.lemmas.Bool.{and_from, and_parts, eq-eqb, eqb-true, ltb-true}
+use Rattle.std.proofs.Common.{ℕ, ◌+◌, ◌≡◌, ◌==◌, ◌&&◌, not, Bool, true, false, cond, List, [], ◌∷◌, length, Option, Some, None, MatchOption, is_some, is_none, refl, sym, ◌∙◌, ap, subst}
+use Rattle.std.proofs.lemmas.Bool.{and_from, and_parts, eq-eqb, eqb-true}
 use Rattle.acpi_regs.specs.declared.actor.Actor.{Actor}
 use Rattle.acpi_regs.specs.declared.actor.Actor.TheVariants as actor
 use Rattle.acpi_regs.specs.declared.actor.Side.{Side}
 use Rattle.acpi_regs.specs.declared.actor.Side.TheVariants as side
 use Rattle.acpi_regs.specs.declared.entry.Deed.{Deed}
 use Rattle.acpi_regs.specs.declared.entry.Deed.TheVariants as deed
-use Rattle.acpi_regs.specs.declared.entry.Effect.{Effect}
 use Rattle.acpi_regs.specs.declared.entry.Effect.TheVariants as effect
 use Rattle.acpi_regs.specs.declared.entry.Entry.{Entry}
 use Rattle.acpi_regs.specs.declared.entry.Request.{Request}
 use Rattle.acpi_regs.specs.declared.entry.Request.TheVariants as request
 use Rattle.acpi_regs.specs.Actor.{same_actor, side_of, stands_on}
-use Rattle.acpi_regs.specs.Lock.{has_owned, is_someone, owned_after, owner, seeker, seeker_after}
+use Rattle.acpi_regs.specs.Lock.{has_owned, is_someone, owned_after, seeker, seeker_after}
 use Rattle.ec_driver.specs.Wire.{carried, wire}
 use Rattle.handler_script.specs.declared.act.Act.{Act}
 use Rattle.handler_script.specs.declared.act.Act.TheVariants as act
@@ -23,13 +22,12 @@ use Rattle.handler_script.specs.Plan.{Plan, Do, End, next_act, plan_after}
 use Rattle.machine_desc.specs.Machine.{MachineData}
 use Rattle.machine_core.specs.declared.course.Course.{Course}
 use Rattle.machine_core.specs.declared.course.Course.TheVariants as course
-use Rattle.machine_core.specs.Actors.{FitsDeed, FitsNext, Stands, asks_no_query, byte_of, left_by, left_in, script_at}
+use Rattle.machine_core.specs.Actors.{FitsDeed, Stands, asks_no_query, byte_of, left_by, left_in, script_at}
 use Rattle.machine_core.proofs.WireRows.{AllHold, first_failing-none}
-use Rattle.machine_history.specs.declared.parts.Job.{Job}
 use Rattle.machine_history.specs.Jobs.{jobs, running, running_after}
-use Rattle.machine_history.specs.Legal.{Allowed, LegalPast, asked, asked_by, conditions, is_opener, is_seeker, is_taking, is_trying, is_worker, may_make, row, same_number, same_request, seeks}
+use Rattle.machine_history.specs.Legal.{Allowed, LegalPast, asked, asked_by, conditions, is_opener, is_taking, is_trying, is_worker, may_make, row, same_number, same_request, seeks}
 use Rattle.machine_history.specs.Scripts.{answer_of, first_plan, left_after, next_of, passes, plan_left}
-use Rattle.machine_history.specs.Values.{blank, taking, taking_in}
+use Rattle.machine_history.specs.Values.{blank, taking_in}
 use Rattle.machine_history.specs.Wire.{Open, begun, is_query, moved, open_after, open_of, put_out}
 
 abbrev pub entry : Actor → Deed → Entry

@@ -1,7 +1,6 @@
 -- What the board keeps stays what the past says, subject by subject, when an allowed entry is appended.
-use Rattle.std.proofs.Common.{ℕ, zero, suc, ◌+◌, ◌-◌, ◌<◌, ◌≤◌, ◌≡◌, ◌==◌, ◌⊎◌, inl, inr, ◌||◌, ◌&&◌, not, Bool, true, false, cond, nat_lt, get_or, List, [], ◌∷◌, ◌++◌, length, slice_get, slice_index, Option, Some, None, refl, sym, ◌∙◌, ap, subst, arith, length-append}
+use Rattle.std.proofs.Common.{ℕ, ◌+◌, ◌-◌, ◌<◌, ◌≤◌, ◌≡◌, ◌==◌, ◌⊎◌, inl, inr, ◌||◌, ◌&&◌, Bool, true, false, cond, nat_lt, List, [], ◌∷◌, length, slice_get, Option, Some, None, refl, sym, ◌∙◌, ap, subst, arith, length-append}
 use Rattle.std.proofs.lemmas.Bool.{and_parts, cases_eq, cases_lt, ltb-true, ltb-false, eq-eqb, ne_eqb}
-use Rattle.std.proofs.lemmas.List.{get_or_past}
 use Rattle.acpi_regs.specs.declared.actor.Actor.{Actor}
 use Rattle.acpi_regs.specs.declared.actor.Actor.TheVariants as actor
 use Rattle.acpi_regs.specs.declared.entry.Cell.{Cell}
@@ -24,21 +23,20 @@ use Rattle.machine_core.specs.declared.actors.Actors.{Actors}
 use Rattle.machine_core.specs.declared.actors.Words.{Words}
 use Rattle.machine_core.specs.declared.events.Events.{Events}
 use Rattle.machine_core.specs.declared.jobs.Jobs.{Jobs}
-use Rattle.machine_core.specs.Actors.{IsActor, IsActors, Moves, Stands, idle, left_by, seat, state_of, words_after, words_of}
+use Rattle.machine_core.specs.Actors.{IsActor, IsActors, Moves, Stands, left_by, seat, state_of, words_after}
 use Rattle.machine_core.specs.Cells.{IsCells, IsIn, byte_in}
 use Rattle.machine_core.specs.Events.{IsEvent, IsEvents, unlatched_after, unlatched_of}
 use Rattle.machine_core.specs.Jobs.{IsJobs}
 use Rattle.machine_core.proofs.Space.{no_memory}
 use Rattle.machine_core.proofs.Standing.{entry, maker, same_actor-refl, same_actor-true}
-use Rattle.machine_history.specs.declared.parts.Access.{Access}
 use Rattle.machine_history.specs.declared.parts.Job.{Job}
 use Rattle.machine_history.specs.Acts.{is_memory, is_memory_cell}
-use Rattle.machine_history.specs.Events.{latches, latches_after, slot, slot_after, touched}
-use Rattle.machine_history.specs.Jobs.{and_job, jobs, made, running, starts, starts_after}
-use Rattle.machine_history.specs.Legal.{Allowed, LegalPast, is_firmware, is_worker, may_make, runs_scripts}
+use Rattle.machine_history.specs.Events.{latches, latches_after, slot_after, touched}
+use Rattle.machine_history.specs.Jobs.{and_job, jobs, made, starts, starts_after}
+use Rattle.machine_history.specs.Legal.{Allowed, is_firmware, is_worker, may_make, runs_scripts}
 use Rattle.machine_history.specs.Machine.{controller_place, pulses_of, space}
-use Rattle.machine_history.specs.Scripts.{left_after, plan_left}
-use Rattle.machine_history.specs.Values.{access_of, ctl_access, deed_access, open_access, same_cell, value, value_after}
+use Rattle.machine_history.specs.Scripts.{left_after}
+use Rattle.machine_history.specs.Values.{ctl_access, deed_access, open_access, value, value_after}
 use Rattle.machine_history.specs.Wire.{Open, open_of}
 
 no : {X : Type 0} → false ≡ true → X

@@ -1,6 +1,5 @@
 -- What the controller tells is what the past says, and it stays so at each entry.
 use Rattle.std.proofs.Common.{ℕ, ◌<◌, ◌≤◌, ◌≡◌, ◌==◌, true, false, cond, List, [], length, slice_index, slice_get, Option, Some, None, unwrap_or, refl, sym, ◌∙◌, ap, subst}
-use Rattle.acpi_regs.specs.declared.actor.Actor.{Actor}
 use Rattle.acpi_regs.specs.declared.entry.Entry.{Entry}
 use Rattle.acpi_regs.specs.declared.entry.Request.{Request}
 use Rattle.acpi_regs.specs.declared.entry.Request.TheVariants as request

@@ -1,6 +1,6 @@
 -- What the board keeps of each worker and firmware: what it has done with the lock since its seek, the job that it runs, and
 -- how far it has come in what it has to do.
-use Rattle.std.specs.Prelude.{◌≡◌, ◌<◌, ℕ, ◌+◌, nat_lt, not, Bool, true, false, List, length, slice_get, slice_index_or, Option, Some, None, MatchOption, is_some, if◌then◌else◌}
+use Rattle.std.specs.Prelude.{◌≡◌, ℕ, ◌+◌, nat_lt, not, Bool, true, false, List, length, slice_get, slice_index_or, Option, Some, None, MatchOption, is_some, if◌then◌else◌}
 use Rattle.acpi_regs.specs.declared.actor.Actor.{Actor}
 use Rattle.acpi_regs.specs.declared.actor.Actor.TheVariants as actor
 use Rattle.acpi_regs.specs.declared.entry.Deed.{Deed}

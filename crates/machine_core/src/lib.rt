@@ -17,6 +17,7 @@ mod course;
 mod events;
 mod jobs;
 mod lock;
+mod recorded;
 mod same;
 mod wire;
 

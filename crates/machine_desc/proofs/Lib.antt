@@ -5,3 +5,4 @@ pub mod Groups
 pub mod Order
 pub mod Partials
 pub mod Ruled
+pub mod Scripts

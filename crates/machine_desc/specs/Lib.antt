@@ -6,5 +6,6 @@ pub mod Groups
 pub mod Kept
 pub mod Machine
 pub mod Rules
+pub mod Scripts
 pub mod Sound
 pub mod Weight

@@ -17,6 +17,7 @@ pub mod laws;
 mod lists;
 mod machine;
 mod parts;
+mod pulses;
 mod rules;
 mod scripted;
 mod served;

@@ -9,15 +9,16 @@ ghost use Rattle.acpi_regs.specs.declared.entry.Entry.{Entry};
 ghost use Rattle.acpi_regs.specs.declared.event.Event.{Event};
 ghost use Rattle.acpi_regs.specs.declared.phase.LockPhase.{LockPhase};
 ghost use Rattle.acpi_regs.specs.Core.{Core, first_core};
-ghost use Rattle.acpi_regs.specs.CoreEvents.{CoreEvent, InRange, IsTurn, LatchesFirst, MayHappen, happens, one, past_in, turned};
+ghost use Rattle.acpi_regs.specs.CoreEvents.{CoreEvent, InRange, IsKnown, IsTurn, LatchesFirst, MayHappen, happens, one, past_in, turned};
 ghost use Rattle.acpi_regs.specs.CoreSound.{AreOfKind, CoreSound, LockSound, PinsSound, hands, holds, latches, listed_pulses, lock_phases};
 ghost use Rattle.acpi_regs.specs.Phases.{Phase};
 
-/// The first core is sound, and each event that may happen leads from a sound core to a sound one. A turn needs nothing of
-/// other actors for it.
+/// The first core is sound, and each event that may happen leads from a sound core to a sound one. A pulse needs nothing of
+/// the lists for it but that its own event is one that there is, and a turn nothing of other actors.
 pub fn law_kept()
     ensures first { (lists : List (List Event)) → CoreSound lists first_core }
     ensures step { (lists : List (List Event)) (c : Core) (e : CoreEvent) → InRange lists → CoreSound lists c → MayHappen lists c e → CoreSound lists (happens lists c e) }
+    ensures known { (lists : List (List Event)) (c : Core) (e : CoreEvent) → IsKnown lists c e → CoreSound lists c → MayHappen lists c e → CoreSound lists (happens lists c e) }
     ensures turn { (lists : List (List Event)) (c : Core) (a : Actor) (deeds : List Deed) → CoreSound lists c → IsTurn (c.phases a) (past_in c) a deeds → CoreSound lists (turned c a deeds) }
 {}
 

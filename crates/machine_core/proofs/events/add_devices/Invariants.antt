@@ -1,4 +1,4 @@
-use Rattle.std.proofs.Common.{◌≡◌, ◌+◌, ◌*◌, ◌≤◌, ℕ, length, take, sum_by, slice_index}
+use Rattle.std.proofs.Common.{◌≡◌, ◌*◌, ◌≤◌, ℕ, take, sum_by, slice_index}
 use Rattle.acpi_regs.specs.declared.event.Event.{Event}
 use Rattle.machine_history.specs.Machine.{times}
 use Rattle.machine_core.specs.Events.{IsEvent, unlatched_of}

@@ -1,4 +1,4 @@
-use Rattle.std.proofs.Common.{◌<◌, ◌≤◌, ◌+◌, get_or, length, arith, slice_index, slice_set}
+use Rattle.std.proofs.Common.{◌<◌, length, arith}
 use Rattle.machine_core.proofs.Places.{pulse_step, rises}
 use Rattle.machine_core.proofs.events.add_pulses.Goals as goal
 

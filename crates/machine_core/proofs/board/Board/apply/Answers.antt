@@ -1,4 +1,4 @@
-use Rattle.std.proofs.Common.{◌≡◌, ◌<◌, ◌∷◌, ◌++◌, [], length, reverse, sym, ap, ◌∙◌, subst, arith}
+use Rattle.std.proofs.Common.{◌≡◌, ◌∷◌, ◌++◌, [], reverse, ap, ◌∙◌, subst, arith}
 use Rattle.event_chip.specs.Chip.{slot_of}
 use Rattle.machine_core.specs.Actors.{Moves, state_of}
 use Rattle.machine_core.specs.Cells.{byte_in}

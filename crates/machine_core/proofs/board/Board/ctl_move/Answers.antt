@@ -1,4 +1,4 @@
-use Rattle.std.proofs.Common.{◌∙◌, ap, length, reverse}
+use Rattle.std.proofs.Common.{◌∙◌, reverse}
 use Rattle.machine_core.proofs.Wires.{told}
 use Rattle.machine_core.proofs.board.Board.ctl_move.Goals as goal
 

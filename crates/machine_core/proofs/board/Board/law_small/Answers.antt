@@ -1,5 +1,4 @@
-use Rattle.std.proofs.Common.{arith, length}
-use Rattle.machine_desc.specs.Weight.{weight_of}
+use Rattle.std.proofs.Common.{arith}
 use Rattle.machine_history.proofs.Whole.{weight_bounds}
 use Rattle.machine_core.proofs.board.Board.law_small.Goals as goal
 

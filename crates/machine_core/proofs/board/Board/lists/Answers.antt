@@ -1,4 +1,4 @@
-use Rattle.std.proofs.Common.{ap, sym, ◌∙◌, reverse}
+use Rattle.std.proofs.Common.{ap, ◌∙◌, reverse}
 use Rattle.event_chip.specs.State.{is_listed}
 use Rattle.machine_core.proofs.Kept.{kind_is}
 use Rattle.machine_core.proofs.board.Board.lists.Goals as goal

@@ -1,5 +1,4 @@
-use Rattle.std.proofs.Common.{◌∙◌, ap, length, reverse}
-use Rattle.machine_core.proofs.Wires.{told}
+use Rattle.std.proofs.Common.{◌∙◌, ap, length}
 use Rattle.machine_core.proofs.board.Board.waiting_codes.Goals as goal
 
 pub returns : goal.returns
