@@ -1,12 +1,9 @@
 -- What attempts that found the word changed leave, one after another.
-use Rattle.std.proofs.Common.{◌≡◌, ℕ, zero, suc, refl, sym, subst, ◌∙◌}
+use Rattle.std.proofs.Common.{◌≡◌, ℕ, suc, refl, subst, ◌∙◌}
 use Rattle.acpi_regs.specs.declared.actor.Actor.{Actor}
 use Rattle.acpi_regs.specs.declared.phase.LockPhase.TheVariants as lock
-use Rattle.lock_table.specs.declared.view.View.{View}
-use Rattle.lock_table.specs.declared.words.Attempt.TheVariants as attempt
 use Rattle.lock_table.specs.Calls.{Pass, SameSeat}
 use Rattle.lock_table.specs.Views.{IsSeeking}
-use Rattle.lock_table.specs.WordCalls.{Attempts}
 use Rattle.global_lock.specs.declared.calls.Acquired.TheVariants as acquired
 use Rattle.global_lock.specs.declared.calls.TryLock.TheVariants as try
 use Rattle.global_lock.specs.Calls.{Acquires, Fails, Tries}

@@ -11,3 +11,5 @@ mod phases;
 pub use calls::{Acquired, TryLock, acquire, give_up, try_lock};
 pub use phases::{Gone, Marked, Owning, Quit, Seeking, Waiting, Won};
 
+#[cfg(test)]
+mod tests;

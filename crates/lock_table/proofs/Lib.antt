@@ -1,7 +1,7 @@
 pub mod Attempts
 pub mod Closing
 pub mod Collecting
-mod Histories
+pub mod Histories
 pub mod Joining
 pub mod LockWord
 pub mod OneStep
@@ -10,6 +10,8 @@ pub mod PartLists
 pub mod PinWord
 pub mod PinWords
 mod Places
+pub mod QuietTurns
+pub mod Rooting
 pub mod SeatFacts
 pub mod Splitting
 pub mod Stepping

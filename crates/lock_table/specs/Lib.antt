@@ -2,6 +2,7 @@ pub mod Bits
 pub mod Calls
 pub mod Pins
 pub mod Plays
+pub mod Roots
 pub mod Rule
 pub mod Views
 pub mod WordCalls
