@@ -1,10 +1,12 @@
 -- What follows from what a run did.
-use Rattle.std.proofs.Common.{◌≡◌, ℕ, ◌+◌, ◌≤◌, ◌⊎◌, inl, inr, Bool, true, false, cond, nat_lt, List, [], ◌∷◌, ◌++◌, length, reverse, Option, None, Some, Result, Ok, Err, String, Global, refl, sym, ap, ◌∙◌, subst, arith, length-append}
+use Rattle.std.proofs.Common.{◌≡◌, ℕ, ◌+◌, ◌≤◌, ◌⊎◌, inl, inr, Bool, true, false, cond, nat_lt, All, List, [], ◌∷◌, ◌++◌, length, reverse, Option, None, Some, Result, Ok, Err, String, Global, refl, sym, ap, ◌∙◌, subst, arith, length-append}
 use Rattle.std.specs.Io.KnownBytes.{Consumes, IsAtEnd}
 use Rattle.std.proofs.lemmas.Bool.{ltb-false}
 use Rattle.std.proofs.lemmas.List.{append-nil}
 use Rattle.serde_json.specs.Data.{Data}
 use Rattle.acpi_regs.specs.declared.entry.Entry.{Entry}
+use Rattle.history_text.specs.Lines.{IsReadBack}
+use Rattle.history_text.specs.Named.{IsEntry}
 use Rattle.machine_desc.specs.declared.fault.BadMachine.{BadMachine}
 use Rattle.machine_desc.specs.declared.parts.MachineParts.{MachineParts}
 use Rattle.machine_desc.specs.Kept.{IsMachine}
@@ -27,8 +29,8 @@ use Rattle.acpi_commands.specs.declared.command.Command.TheVariants as command
 use Rattle.acpi_commands.specs.declared.status.Status.{Status}
 use Rattle.acpi_commands.specs.declared.status.Status.TheVariants as status
 use Rattle.acpi_commands.specs.Headline.{OneRunEach, Ran}
-use Rattle.acpi_commands.specs.Check.{FromLog}
-use Rattle.acpi_commands.specs.Run.{Answers, ByCommand, Completes, Does, FromBytes, IsTaken, ReadsWhole, Refuses, status_of}
+use Rattle.acpi_commands.specs.Check.{FromLog, IsCompleteLog}
+use Rattle.acpi_commands.specs.Run.{Answers, ByCommand, Completes, Does, FromBytes, IsTaken, ReadsWhole, Refuses, status_of, text}
 use Rattle.acpi_commands.specs.Words.{IsCommand, limit_of, word_of}
 use Rattle.history_text.proofs.Described.{not_refused}
 use Rattle.acpi_commands.proofs.Checks.{IsDone, log_done}
@@ -55,6 +57,10 @@ ran bytes m history describes complete scripts_once jobs_once jobs_done last own
   one_run = one_run m history complete pushed runs;
   consumes = consumes;
 }
+
+-- its text is a log which `check` takes for complete
+pub complete_log : (m : MachineData) (history : List Entry) → IsReadBack m → All IsEntry history → Complete m history → IsCompleteLog (text m history) m history
+complete_log m history read_back named complete = record { text_is = refl; read_back = read_back; named = named; complete = complete }
 
 -- ---- from the bytes to the command
 

@@ -5,8 +5,10 @@ use Rattle.std.specs.declared.alloc.Global.{Global}
 use Rattle.acpi_io.specs.Sink.{AddsFront}
 use Rattle.acpi_io.specs.Source.{TakesExactly, TakesUpTo}
 use Rattle.acpi_regs.specs.declared.entry.Entry.{Entry}
+use Rattle.acpi_regs.specs.Core.{Core, first_core}
+use Rattle.machine_desc.specs.Actors.{actors_of}
 use Rattle.machine_desc.specs.Machine.{MachineData}
-use Rattle.machine_history.specs.Played.{Played}
+use Rattle.machine_history.specs.Played.{Played, Settles}
 use Rattle.machine_reader.specs.declared.fault.ReaderFault.{ReaderFault}
 use Rattle.machine_reader.specs.declared.fault.ReaderFault.TheVariants as fault
 use Rattle.machine_reader.specs.Canonical.{canonical}
@@ -28,15 +30,21 @@ ReadsWhole limit left left' bytes = (length bytes ≤ limit) × Consumes left le
 abbrev pub text : MachineData → List Entry → List ℕ
 text m history = log_text m (canonical m) history
 
--- the history that a command writes, where it writes one: of a replay the one that the schedule and then rounds lead to
+-- the history after rounds alone, in the order in which actors are served
+abbrev pub InRounds : MachineData → List Entry → Type 0
+InRounds m history = (c : Core) × Settles m (actors_of m) first_core c × (history ≡ c.history)
+
+-- the history that a command writes, where it writes one: the one that rounds lead to, and in a replay the schedule before them
 abbrev pub IsMade : Command → MachineData → List Entry → Type 0
-IsMade command.Run m history = Unit {0}
+IsMade command.Run m history = InRounds m history
 IsMade command.Replay m history = Played m history
 IsMade command.Check m history = ⊥
 
--- what a command makes of the bytes that it has read, and does with the text of that
+-- What a command makes of the bytes that it has read, and does with the text of that. The text is a log which `check` takes for
+-- complete, and that of no other machine and history.
 abbrev pub Makes : Command → List ℕ → (List ℕ → Type 0) → Type 0
-Makes c bytes does = (m : MachineData) × (history : List Entry) × Ran bytes m history × IsMade c m history × does (text m history)
+Makes c bytes does =
+    (m : MachineData) × (history : List Entry) × Ran bytes m history × IsMade c m history × IsCompleteLog (text m history) m history × does (text m history)
 
 -- the status of a fault of the reader
 abbrev pub status_of : ReaderFault → Status

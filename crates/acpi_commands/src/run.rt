@@ -1,8 +1,10 @@
-ghost use Rattle.std.specs.Prelude.{◌≡◌, ◌≤◌, List, Ok, OnErr, OnOk, IfErr, IfOk, IfSome, map};
+ghost use Rattle.std.specs.Prelude.{◌≡◌, ◌≤◌, All, List, Ok, OnErr, OnOk, IfErr, IfOk, IfSome, map};
 ghost use Rattle.acpi_regs.specs.declared.entry.Entry.{Entry};
 ghost use Rattle.acpi_regs.specs.Core.{first_core};
 ghost use Rattle.acpi_io.specs.Faults.{RoseByOne};
 ghost use Rattle.acpi_io.specs.Sink.{WritesAll};
+ghost use Rattle.history_text.specs.Lines.{IsReadBack};
+ghost use Rattle.history_text.specs.Named.{IsEntry};
 ghost use Rattle.machine_desc.specs.Actors.{actors_of};
 ghost use Rattle.machine_desc.specs.Weight.{weight_of};
 ghost use Rattle.machine_history.specs.Complete.{Complete};
@@ -15,6 +17,7 @@ use crate::prepared::Prepared;
 use crate::status::Status;
 use acpi_io::{Sink, WriteFault};
 use core_laws::laws::{law_gives, law_sound};
+use history_text::laws::{law_canonical, law_entries};
 use history_text::write_log;
 use lock_table::{Bits, Words};
 use machine_core::Board;
@@ -59,12 +62,14 @@ pub fn run<K: Sink>(alloc: Global, command: Command, bytes: &[u8], sink: &mut K)
 /// Reads a description and takes all the memory that its run needs.
 fn prepare_run(alloc: Global, bytes: &[u8]) -> Result<Prepared, Status>
     ensures ok { IfOk result (λ p. Describes bytes.now (Ok p.machine)) }
+    ensures read_back { IfOk result (λ p. IsReadBack p.machine) }
     ensures refused { IfErr result (λ status. Refuses bytes.now status) }
 {
     let machine = match read_machine(alloc, bytes) {
         Ok(machine) => machine,
         Err(fault) => return Err(Status::from(fault)),
     };
+    law_canonical(&machine);
     match prepared(alloc, machine) {
         Some(prepared) => Ok(prepared),
         None => Err(Status::Memory),
@@ -105,7 +110,7 @@ fn prepared(alloc: Global, machine: Machine) -> Option<Prepared>
 fn carry_out<K: Sink>(command: Command, prepared: Prepared, sink: &mut K) -> Result<(), WriteFault>
     requires { ¬ command ≡ Command.Check }
     ensures ends { (history : List Entry) × Complete prepared.machine history × IsMade command prepared.machine history
-        × WritesAll (K.held sink.old) (K.held sink.new) (text prepared.machine history) result }
+        × All IsEntry history × WritesAll (K.held sink.old) (K.held sink.new) (text prepared.machine history) result }
     ensures later { K.faults sink.old ≤ K.faults sink.new }
     ensures cause { OnErr result (RoseByOne (K.faults sink.old) (K.faults sink.new)) }
     ensures told { OnOk result (K.faults sink.new ≡ K.faults sink.old) }
@@ -117,6 +122,7 @@ fn carry_out<K: Sink>(command: Command, prepared: Prepared, sink: &mut K) -> Res
         text,
     } = prepared;
     play(command, &machine, &mut world, &mut actors);
+    law_entries(world.board());
     write_log(&text, world.board(), sink)
 }
 

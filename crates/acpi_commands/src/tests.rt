@@ -25,6 +25,10 @@ const TWO: &str =
 const TWO_LOG: &str =
     "machine {\"controller\":null,\"devices\":[],\"events\":[],\"fields\":[{\"bit\":0,\"lock\":false,\"region\":0,\"update\":\"preserve\",\"width\":8}],\"firmware\":[[[\"write\",0,90],[\"read\",0]]],\"gpe\":{\"base1\":0,\"gpe0\":2,\"gpe1\":0},\"regions\":[{\"bytes\":[],\"kind\":\"memory\",\"len\":1}],\"schedule\":[],\"version\":1,\"workers\":1}\nf0 write 00:0000 5A\nf0 read 00:0000 5A\nrest 2\n";
 
+/// A power button that the firmware presses while it holds the Global Lock, with a schedule.
+const BUTTON: &str =
+    "{\"controller\":null,\"devices\":[],\"events\":[{\"name\":\"pwr\",\"refs\":1,\"script\":[[\"add\",0,1]]}],\"fields\":[{\"bit\":0,\"lock\":true,\"region\":0,\"update\":\"preserve\",\"width\":8}],\"firmware\":[[[\"raise\",\"pwr\"],[\"hold\"],[\"write\",0,16],[\"free\"]]],\"gpe\":{\"base1\":0,\"gpe0\":2,\"gpe1\":0},\"regions\":[{\"bytes\":[],\"kind\":\"memory\",\"len\":1}],\"schedule\":[\"f0\",\"f0\",\"f0\",\"f0\",\"int\",\"w0\",\"w0\",\"w0\",\"w0\"],\"version\":1,\"workers\":1}";
+
 /// What a call answered, what its sink then held, and how often the sink was called.
 #[derive(Drop)]
 struct Outcome {
@@ -206,6 +210,22 @@ fn a_failing_write_is_a_write_fault(rt: HostRuntime) -> Result<(), Fail> {
             assert!(rt; log.starts_with(&outcome.held));
         }
     }
+    Ok(())
+}
+
+/// The same of a replay whose actors wait for each other: its sink takes 16 bytes a call, and the third call fails.
+#[test]
+fn a_failing_write_of_a_replay_leaves_a_front_of_the_log(rt: HostRuntime) -> Result<(), Fail> {
+    let alloc = rt.alloc();
+    let faults = Faults {
+        read: None,
+        write: Some(2),
+        most: 16,
+    };
+    let outcome = call(alloc, "replay", BUTTON.as_bytes(), faults)?;
+    assert_eq!(rt; outcome.status, Status::WriteFault);
+    let machine_line = format!(in alloc; "machine {BUTTON}\n")?;
+    assert!(rt; outcome.held.as_slice() == &machine_line.as_bytes()[..32]);
     Ok(())
 }
 

@@ -3,6 +3,7 @@ pub mod BadLines
 pub mod Described
 mod FirstLine
 mod Guesses
+mod Names
 mod Numbers
 pub mod Parked
 mod Steps

@@ -1,12 +1,14 @@
 //! Laws over the text of a log, for every entry, machine and history. A law is a function with nothing to do, whose contract
 //! says it.
-ghost use Rattle.std.specs.Prelude.{◌≤◌};
+ghost use Rattle.std.specs.Prelude.{◌≤◌, All};
 ghost use Rattle.machine_desc.specs.Weight.{weight_of};
 ghost use Rattle.machine_reader.specs.Description.{limit};
 ghost use Rattle.history_text.specs.Laws.{NoBadLine, OneBadLine, OneLog, OneMachine, OneText};
 ghost use Rattle.history_text.specs.Lines.{IsReadBack};
-ghost use Rattle.history_text.specs.Named.{OneEntry};
+ghost use Rattle.history_text.specs.Named.{IsEntry, OneEntry};
 
+use crate::typed::law_deed;
+use machine_core::Board;
 use machine_desc::Machine;
 use machine_reader::laws::law_read_back;
 
@@ -38,4 +40,16 @@ pub fn law_canonical(machine: &Machine)
     ensures { IsReadBack machine.now }
 {
     law_read_back(machine);
+}
+
+/// Each entry of a board has an actor with a name, and its numbers are those of their types. It looks at each entry once, and
+/// changes nothing.
+pub fn law_entries(board: &Board)
+    ensures { All IsEntry board.now.entries }
+{
+    board.law_legal();
+    board.machine().law_rules();
+    for i in 0..board.len() {
+        law_deed(board.entry(i).deed);
+    }
 }

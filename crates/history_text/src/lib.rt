@@ -21,6 +21,7 @@ mod log;
 mod log_read;
 mod pieces;
 mod read;
+mod typed;
 
 pub use bytes::log_bytes;
 pub use fault::LogFault;

@@ -7,3 +7,4 @@ pub mod Rows
 pub mod Served
 pub mod OwnEntries
 pub mod SeatSteps
+pub mod Running

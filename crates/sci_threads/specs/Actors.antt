@@ -1,16 +1,22 @@
 -- The actors of a machine in a row, and the core that they stand for beside a world of one thread.
-use Rattle.std.specs.Prelude.{List, [], ◌∷◌, if◌then◌else◌}
+use Rattle.std.specs.Prelude.{◌≡◌, List, [], ◌∷◌, if◌then◌else◌}
 use Rattle.acpi_regs.specs.declared.actor.Actor.{Actor}
 use Rattle.acpi_regs.specs.declared.actor.Actor.TheVariants as actor
+use Rattle.acpi_regs.specs.declared.phase.LockPhase.{LockPhase}
+use Rattle.acpi_regs.specs.declared.phase.Pulse.{Pulse}
 use Rattle.acpi_regs.specs.Actor.{same_actor}
 use Rattle.acpi_regs.specs.Core.{Core}
 use Rattle.acpi_regs.specs.Phases.{Free, Lock, Phase, Pulsed, first_phase}
 use Rattle.core_laws.specs.Gives.{NobodyHolds}
 use Rattle.core_laws.specs.Sound.{Sound}
+use Rattle.fw_actors.specs.Hardware.{CtlSteps, DeviceSteps}
 use Rattle.machine_desc.specs.Machine.{MachineData}
+use Rattle.os_actors.specs.Hosts.{HostSteps}
 use Rattle.sci_threads.specs.declared.any.AnyActor.{AnyActor}
 use Rattle.sci_threads.specs.declared.any.AnyActor.TheVariants as any
-use Rattle.world.specs.Serial.{Serial, core_of}
+use Rattle.world.specs.declared.outcome.StepOutcome.{StepOutcome}
+use Rattle.world.specs.Serial.{Serial, SerialMakes, core_of}
+use Rattle.world.specs.Stepping.{ScriptSteps}
 
 -- which actor it is, and its phase
 abbrev pub who : AnyActor → Actor
@@ -28,6 +34,16 @@ stands (any.Worker w) = Lock w.phase
 stands (any.Ec c) = Free
 stands (any.Device d) = Pulsed d.pulses
 stands (any.Firmware f) = Lock f.phase
+
+-- one step of an actor as its own kind has it: one call of its world, the outcome that the call's answer gives, and the actor
+-- behind it
+abbrev pub StepsAs : MachineData → AnyActor → Serial → StepOutcome → Serial → AnyActor → Type 0
+StepsAs m (any.Int i) before o after y = HostSteps SerialMakes m actor.Int before o after
+StepsAs m (any.Poll p) before o after y = HostSteps SerialMakes m actor.Poll before o after
+StepsAs m (any.Ec c) before o after y = CtlSteps SerialMakes m before o after
+StepsAs m (any.Worker w) before o after y = (q : LockPhase) × (stands y ≡ Lock q) × ScriptSteps SerialMakes m (actor.Worker w.number) before w.phase o after q
+StepsAs m (any.Firmware f) before o after y = (q : LockPhase) × (stands y ≡ Lock q) × ScriptSteps SerialMakes m (actor.Firmware f.number) before f.phase o after q
+StepsAs m (any.Device d) before o after y = (ps : List Pulse) × (stands y ≡ Pulsed ps) × DeviceSteps SerialMakes m d.number before d.pulses o after ps
 
 -- the phases of the actors in a row; every other actor is at its start
 abbrev pub phases_of : List AnyActor → Actor → Phase

@@ -10,10 +10,12 @@ use Rattle.lock_table.specs.declared.view.Occupant.{Occupant}
 use Rattle.lock_table.specs.declared.view.Occupant.TheVariants as who
 use Rattle.lock_table.specs.declared.view.Part.{Part}
 use Rattle.lock_table.specs.declared.view.Stage.TheVariants as stage
-use Rattle.lock_table.specs.Calls.{Pass}
+use Rattle.lock_table.specs.Calls.{Pass, SameSeat}
 use Rattle.lock_table.specs.Views.{ForOne, phase_of, pulses_of}
 use Rattle.machine_desc.specs.Machine.{MachineData}
 use Rattle.machine_history.specs.Scripts.{next_of}
+use Rattle.sci_threads.specs.declared.shared.ActorSeat.{ActorSeat}
+use Rattle.sci_threads.specs.Actors.{stands, who as who_of}
 use Rattle.world.specs.declared.outcome.StepOutcome.{StepOutcome}
 use Rattle.world.specs.declared.outcome.StepOutcome.TheVariants as outcome
 
@@ -61,3 +63,16 @@ Rises m false x y = steps_in y ≡ steps_in x + 1
 -- at most so many steps: the actor is at its end, or all of them are told
 abbrev pub Ran : MachineData → ℕ → Occupant → Occupant → Type 0
 Ran m turns x y = ForOne (IsAtEnd m) y ⊎ (steps_in y ≡ steps_in x + turns)
+
+-- ---- many actors
+
+-- actor and seat agree
+abbrev pub Agrees : TableId → ActorSeat → Type 0
+Agrees id x = IsReady id (who_of x.actor) (stands x.actor) x.seat
+
+-- the same actor in the same seat, which agree, behind at most so many steps
+pub record RanOn (m : MachineData) (id : TableId) (turns : ℕ) (x y : ActorSeat) : Type 0 where
+  pub same_actor : who_of y.actor ≡ who_of x.actor
+  pub same_seat : SameSeat x.seat y.seat
+  pub agrees : Agrees id y
+  pub ran : Ran m turns x.seat.view.who y.seat.view.who

@@ -3,7 +3,7 @@ ghost use Rattle.acpi_regs.specs.declared.actor.Actor.{Actor};
 ghost use Rattle.acpi_regs.specs.Phases.{Phase, first_phase, put};
 ghost use Rattle.machine_desc.specs.Actors.{actors_of};
 ghost use Rattle.machine_history.specs.Steps.{gives};
-ghost use Rattle.sci_threads.specs.Actors.{phases_of, stands, who};
+ghost use Rattle.sci_threads.specs.Actors.{StepsAs, phases_of, stands, who};
 ghost use Rattle.world.specs.Duties.{AreLatchable};
 ghost use Rattle.world.specs.Serial.{core_of, pins_of};
 ghost use Rattle.world.specs.Stepping.{after_step, is_stepped};
@@ -47,7 +47,7 @@ impl AnyActor {
     }
 
     /// One step of the actor over a world of one thread: exactly what it is given, from every core that the world and its
-    /// phase stand for. Each pin that is set has fewer latches than pulses in the device lists.
+    /// phase stand for, and the outcome that its own kind tells. Each pin that is set has fewer latches than pulses in the device lists.
     pub fn step(&mut self, machine: &Machine, world: &mut SerialWorld) -> StepOutcome
         requires machine { world.old.board.machine ≡ machine.now }
         requires latchable { AreLatchable machine.now world.old.board.entries (pins_of world.old) }
@@ -58,6 +58,7 @@ impl AnyActor {
             ≡ after_step result (core_of world.new (put (who self.old) (stands self.new) phases)) }
         ensures stays { is_stepped result ≡ false → ((phases : Actor → Phase) → core_of world.new phases ≡ core_of world.old phases)
             × (stands self.new ≡ stands self.old) }
+        ensures answers { StepsAs machine.now self.old world.old result world.new self.new }
     {
         match self {
             AnyActor::Int(int) => int.step(machine, world),

@@ -10,12 +10,15 @@
 mod actors;
 mod any;
 pub mod laws;
+mod parallel;
 mod rounds;
 mod seats;
 mod shared;
 
 pub use actors::all_actors;
+pub use acpi_regs::{Gate, OpenGate};
 pub use any::AnyActor;
 pub use seats::{join_all, prepare};
+pub use parallel::run_parallel;
 pub use rounds::{drain, run_schedule, step_of};
 pub use shared::ActorSeat;

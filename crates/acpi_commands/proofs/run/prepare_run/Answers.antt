@@ -3,3 +3,6 @@ use Rattle.acpi_commands.proofs.run.prepare_run.Goals as goal
 
 pub prepared-requires : goal.prepared-requires
 prepared-requires c = small_weight c.args.bytes.now c.in-Ok.machine c.in-Ok.ensures
+
+pub law_canonical-requires : goal.law_canonical-requires
+law_canonical-requires c = small_weight c.args.bytes.now c.in-Ok.machine c.in-Ok.ensures
