@@ -7,4 +7,5 @@ pub mod Rows
 pub mod Served
 pub mod OwnEntries
 pub mod SeatSteps
+pub mod Seating
 pub mod Running

@@ -33,9 +33,9 @@ pub fn prepare(
     let count = machine.actors();
     let mut seats = Vec::with_capacity(alloc, usize::from(count))?;
     for k in 0..count {
-        let actor = machine.actor(k);
-        let seat = table.split(root, actor);
-        let actor = AnyActor::new(actor);
+        let name = machine.actor(k);
+        let seat = table.split(root, name);
+        let actor = AnyActor::new(name);
         seats.push(ActorSeat { actor, seat })?;
     }
     Ok(seats)
