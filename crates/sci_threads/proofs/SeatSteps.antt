@@ -154,9 +154,9 @@ module _ (m : MachineData) (a : Actor) (k : LockPhase) (v w : View) (p : Part) (
   turned_call before after o q makes adds out next =
       let made = script_entry m (reverse before) a k in
       tries_once m o a (Lock q) v w p (turned false before after p) isnt is (one_after _ v.who w.who p is (ap (λ (x : View). x.who) makes.seat)) its refl
-          (ap (λ l. phase_of (let_go (after_deeds (deeds_of l) p.phase))) (new_is before after made adds) ∙ ap (λ x. phase_of (let_go (after_deeds (deeds_of (added a made)) x))) (kept_lock p.phase k in_phase) ∙ moved_once a made k ∙ ap Lock (sym next))
-          refl (ap (λ (x : View). x.stage) makes.seat)
-          (λ ended. at_end before after made (subst (ForOne (MadeIn before)) is makes.made) makes.legal adds (ended_made (has_ended m (reverse before) a k) made (sym (ap is_ended out) ∙ ended)))
+      (ap (λ l. phase_of (let_go (after_deeds (deeds_of l) p.phase))) (new_is before after made adds) ∙ ap (λ x. phase_of (let_go (after_deeds (deeds_of (added a made)) x))) (kept_lock p.phase k in_phase) ∙ moved_once a made k ∙ ap Lock (sym next))
+      refl (ap (λ (x : View). x.stage) makes.seat)
+      (λ ended. at_end before after made (subst (ForOne (MadeIn before)) is makes.made) makes.legal adds (ended_made (has_ended m (reverse before) a k) made (sym (ap is_ended out) ∙ ended)))
 
   script_call : (call : Call) (o : StepOutcome) (q : LockPhase) → SeatMakes m v call w → ScriptAnswers m a k call o q → Stepped m o a (Lock q) v w
   script_call (Attempted r) o q makes says = attempted r o q makes says
@@ -185,8 +185,8 @@ module _ (m : MachineData) (a : Actor) (v w : View) (p : Part) (isnt : is_device
   free_call : (collects : Bool) (adds : List Entry → List Event → List Entry) (call : Call) (o : StepOutcome) → SeatMakes m v call w → TurnAnswers collects adds call o → Stepped m o a Free v w
   free_call collects adds (Turned collect before after events) o makes says =
       tries_once m o a Free v w p (turned collect before after p) isnt is (one_after _ v.who w.who p is (ap (λ (x : View). x.who) makes.seat)) its refl
-          (ap (λ x. phase_of (let_go x)) (ap (after_deeds (deeds_of (drop (length before) after))) (kept_free p.phase in_phase) ∙ free_still (deeds_of (drop (length before) after))))
-          refl (ap (λ (x : View). x.stage) makes.seat) (λ ended. absurd (did_goes (did (adds (reverse before) events)) (sym (ap is_ended says.2) ∙ ended)))
+      (ap (λ x. phase_of (let_go x)) (ap (after_deeds (deeds_of (drop (length before) after))) (kept_free p.phase in_phase) ∙ free_still (deeds_of (drop (length before) after))))
+      refl (ap (λ (x : View). x.stage) makes.seat) (λ ended. absurd (did_goes (did (adds (reverse before) events)) (sym (ap is_ended says.2) ∙ ended)))
   free_call collects adds Missed o makes says =
       tries_once m o a Free v w p _ isnt is (one_after _ v.who w.who p is (ap (λ (x : View). x.who) makes)) its refl in_phase refl (ap (λ (x : View). x.stage) makes ∙ v_away) (λ ended. absurd (false_true (sym (ap is_ended says) ∙ ended)))
   free_call collects adds (Attempted r) o makes says = absurd says

@@ -15,10 +15,10 @@ mod rounds;
 mod seats;
 mod shared;
 
-pub use actors::all_actors;
 pub use acpi_regs::{Gate, OpenGate};
+pub use actors::all_actors;
 pub use any::AnyActor;
-pub use seats::{join_all, prepare};
 pub use parallel::run_parallel;
 pub use rounds::{drain, run_schedule, step_of};
+pub use seats::prepare;
 pub use shared::ActorSeat;

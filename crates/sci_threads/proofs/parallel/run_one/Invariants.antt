@@ -9,5 +9,5 @@ invariant-loop-made g l = record {
   same_actor : who l.at.actor ≡ who l.initial.at.actor;
   same_seat : SameSeat l.initial.at.seat l.at.seat;
   agrees : Agrees l.table.table.shared.table_id l.at;
-  told : steps_in l.at.seat.view.who ≡ steps_in l.initial.at.seat.view.who + l._made
+  told : steps_in l.at.seat.view.who ≡ steps_in l.initial.at.seat.view.who + l._made;
 }

@@ -30,4 +30,4 @@ loop-k-preserved c =
     let items : c.push.new.self.items ≡ old ++ x ∷ [] = search rules in
     let there = c.loop-k.invariant.fresh a (actor_known m k a c.law_rules.ensures at) (actor_new m k a at) in
     prepares_more c.args.table.now.table.shared.table_id (actors_of m) k c.actors-count.result a c.loop-k.root c.split-seat.new.root old c.push.new.self.items x c.loop-k.invariant at there
-        c.split-seat.ensures.same.0.0 c.split-seat.ensures.same.1 c.split-seat.ensures.views.0 c.split-seat.ensures.views.1 c.new-actor.ensures.who c.new-actor.ensures.stands items
+    c.split-seat.ensures.same.0.0 c.split-seat.ensures.same.1 c.split-seat.ensures.views.0 c.split-seat.ensures.views.1 c.new-actor.ensures.who c.new-actor.ensures.stands items

@@ -45,7 +45,7 @@ returns-in-Worker-clause-ready c =
     let r = subst (λ x. IsReady c.args.world.now.table.now.table.shared.table_id (who x) (stands x) c.args.world.now.seat.now) c.in-Worker.is c.requires.ready in
     let made = subst (λ (m : MachineData). SeatMakes m c.args.world.now.seat.now.view s.0 c.step-in-Worker.new.world.seat.now.view) c.requires.machine s.1.3 in
     subst (λ (n : ℕ). IsReady c.args.world.now.table.now.table.shared.table_id (actor.Worker n) (Lock c.step-in-Worker.new.self.phase) c.step-in-Worker.new.world.seat.now) (sym c.step-in-Worker.ensures.number)
-        (ready_again c.args.machine.now _ c.step-in-Worker.result (actor.Worker c.in-Worker.worker.number) (Lock c.in-Worker.worker.phase) (Lock c.step-in-Worker.new.self.phase) _ _ r s.1.2 (script_stepped c.args.machine.now (actor.Worker c.in-Worker.worker.number) c.in-Worker.worker.phase c.args.world.now.seat.now.view c.step-in-Worker.new.world.seat.now.view c.step-in-Worker.result c.step-in-Worker.new.self.phase s.0 refl r.away r.part made s.2))
+    (ready_again c.args.machine.now _ c.step-in-Worker.result (actor.Worker c.in-Worker.worker.number) (Lock c.in-Worker.worker.phase) (Lock c.step-in-Worker.new.self.phase) _ _ r s.1.2 (script_stepped c.args.machine.now (actor.Worker c.in-Worker.worker.number) c.in-Worker.worker.phase c.args.world.now.seat.now.view c.step-in-Worker.new.world.seat.now.view c.step-in-Worker.result c.step-in-Worker.new.self.phase s.0 refl r.away r.part made s.2))
 
 pub returns-in-Firmware-clause-ready : goal.returns-in-Firmware-clause-ready
 returns-in-Firmware-clause-ready c =
@@ -53,7 +53,7 @@ returns-in-Firmware-clause-ready c =
     let r = subst (λ x. IsReady c.args.world.now.table.now.table.shared.table_id (who x) (stands x) c.args.world.now.seat.now) c.in-Firmware.is c.requires.ready in
     let made = subst (λ (m : MachineData). SeatMakes m c.args.world.now.seat.now.view s.0 c.step-in-Firmware.new.world.seat.now.view) c.requires.machine s.1.3 in
     subst (λ (n : ℕ). IsReady c.args.world.now.table.now.table.shared.table_id (actor.Firmware n) (Lock c.step-in-Firmware.new.self.phase) c.step-in-Firmware.new.world.seat.now) (sym c.step-in-Firmware.ensures.number)
-        (ready_again c.args.machine.now _ c.step-in-Firmware.result (actor.Firmware c.in-Firmware.firmware.number) (Lock c.in-Firmware.firmware.phase) (Lock c.step-in-Firmware.new.self.phase) _ _ r s.1.2 (script_stepped c.args.machine.now (actor.Firmware c.in-Firmware.firmware.number) c.in-Firmware.firmware.phase c.args.world.now.seat.now.view c.step-in-Firmware.new.world.seat.now.view c.step-in-Firmware.result c.step-in-Firmware.new.self.phase s.0 refl r.away r.part made s.2))
+    (ready_again c.args.machine.now _ c.step-in-Firmware.result (actor.Firmware c.in-Firmware.firmware.number) (Lock c.in-Firmware.firmware.phase) (Lock c.step-in-Firmware.new.self.phase) _ _ r s.1.2 (script_stepped c.args.machine.now (actor.Firmware c.in-Firmware.firmware.number) c.in-Firmware.firmware.phase c.args.world.now.seat.now.view c.step-in-Firmware.new.world.seat.now.view c.step-in-Firmware.result c.step-in-Firmware.new.self.phase s.0 refl r.away r.part made s.2))
 
 pub returns-in-Firmware-clause-rises : goal.returns-in-Firmware-clause-rises
 returns-in-Firmware-clause-rises c =
@@ -62,4 +62,3 @@ returns-in-Firmware-clause-rises c =
     let made = subst (λ (m : MachineData). SeatMakes m c.args.world.now.seat.now.view s.0 c.step-in-Firmware.new.world.seat.now.view) c.requires.machine s.1.3 in
     let stepped = script_stepped c.args.machine.now (actor.Firmware c.in-Firmware.firmware.number) c.in-Firmware.firmware.phase c.args.world.now.seat.now.view c.step-in-Firmware.new.world.seat.now.view c.step-in-Firmware.result c.step-in-Firmware.new.self.phase s.0 refl r.away r.part made s.2 in
     stepped.rises
-
