@@ -8,4 +8,5 @@ pub mod Served
 pub mod OwnEntries
 pub mod SeatSteps
 pub mod Seating
+pub mod SeatsBack
 pub mod Running

@@ -20,5 +20,5 @@ pub use actors::all_actors;
 pub use any::AnyActor;
 pub use parallel::run_parallel;
 pub use rounds::{drain, run_schedule, step_of};
-pub use seats::prepare;
+pub use seats::{join_all, prepare};
 pub use shared::ActorSeat;
