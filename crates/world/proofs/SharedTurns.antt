@@ -218,16 +218,18 @@ module _ (m : MachineData) (a : Actor) (lock : Option Deed) (before after : List
   added collect who.Nobody may nothing turn legal = absurd may
   added true (who.One p) may nothing turn legal =
       let allows = free_allows (words_of bits) lock (subst (λ q. AllowsLock q lock) (may.free refl) may.allows) in
-      let its = subst (λ x. IsTurn x lock before after (events_of (pinned bits)) answer) (sym may.is_its) turn in
-      (deeds m (kept.Holding (words_of bits)) p.actor lock before after (events_of (pinned bits)) answer (pinned_events bits) allows its legal,
-      adds m (kept.Holding (words_of bits)) p.actor lock before after (events_of (pinned bits)) answer (pinned_events bits) allows its legal,
-      turn_is m (kept.Holding (words_of bits)) p.actor lock before after (events_of (pinned bits)) answer (pinned_events bits) allows its legal)
+      let its = subst (λ x. IsTurn x lock before after (events_of (pinned bits)) answer) (sym may.is_its) turn in (
+        deeds m (kept.Holding (words_of bits)) p.actor lock before after (events_of (pinned bits)) answer (pinned_events bits) allows its legal,
+        adds m (kept.Holding (words_of bits)) p.actor lock before after (events_of (pinned bits)) answer (pinned_events bits) allows its legal,
+        turn_is m (kept.Holding (words_of bits)) p.actor lock before after (events_of (pinned bits)) answer (pinned_events bits) allows its legal,
+      )
   added false (who.One p) may nothing turn legal =
       let hand = nothing refl ∙ sym (empty_hand p.phase may.empty) in
-      let its = subst (λ x. IsTurn x lock before after (events_of (pinned bits)) answer) (sym may.is_its) turn in
-      (deeds m p.phase p.actor lock before after (events_of (pinned bits)) answer hand may.allows its legal,
-      adds m p.phase p.actor lock before after (events_of (pinned bits)) answer hand may.allows its legal,
-      turn_is m p.phase p.actor lock before after (events_of (pinned bits)) answer hand may.allows its legal)
+      let its = subst (λ x. IsTurn x lock before after (events_of (pinned bits)) answer) (sym may.is_its) turn in (
+        deeds m p.phase p.actor lock before after (events_of (pinned bits)) answer hand may.allows its legal,
+        adds m p.phase p.actor lock before after (events_of (pinned bits)) answer hand may.allows its legal,
+        turn_is m p.phase p.actor lock before after (events_of (pinned bits)) answer hand may.allows its legal,
+      )
 
 pub may_add_turn : (m : MachineData) (a : Actor) (lock : Option Deed) (collect : Bool) (v w : View) (after : List Entry) (bits : Bits) (answer : Acted) → w ≡ gathered collect (words_of bits) v → ForOne (MayAct a collect lock) v.who
     → (collect ≡ false → events_of (pinned bits) ≡ []) → IsTurn a lock v.seen after (events_of (pinned bits)) answer → Legal m after → MayAdd w.who w.seen after

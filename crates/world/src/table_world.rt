@@ -65,7 +65,9 @@ impl<'a> World for TableWorld<'a> {
     fn turn<D: Duty>(&mut self, collect: bool, duty: &mut D) -> TurnOutcome {
         self.seat.law_own();
         match self.table.enter(self.seat) {
-            Entered::Turn(turn) => TurnOutcome::Done(act_in(self.table, self.seat, turn, collect, duty)),
+            Entered::Turn(turn) => TurnOutcome::Done(act_in(
+                self.table, self.seat, turn, collect, duty,
+            )),
             Entered::Out => TurnOutcome::Out,
         }
     }

@@ -27,8 +27,7 @@ returns-clause-acts g c =
     let a = g.D.Duty.actor_of c.args.duty.now in
     let lock = g.D.Duty.lock c.args.duty.now in
     let events = events_of (pinned c.gather-bits.result) in
-    let after = c.act-acted.new.board.entries in
-    (
+    let after = c.act-acted.new.board.entries in (
       after,
       events,
       c.gather-bits.ensures.nothing,
