@@ -146,6 +146,7 @@ pub record IsTurn (p : Phase) (past : List Entry) (a : Actor) (deeds : List Deed
 abbrev pub OthersFree : (Actor → Phase) → Actor → Type 0
 OthersFree phases a = (b : Actor) → same_actor a b ≡ false → is_holding (phases b) ≡ false
 
+-- when an event may happen; a collect of a word above 4 finds nothing, since no event's pin lies there
 abbrev pub MayHappen : List (List Event) → Core → CoreEvent → Type 0
 MayHappen lists c (Load a) = (l : Option ℕ) × (c.phases a ≡ Lock (phase.Seeking l))
 MayHappen lists c (Exchange a) = (l : ℕ) × (c.phases a ≡ Lock (phase.Seeking (Some l)))

@@ -74,7 +74,8 @@ pub record PulsesSaid (lists : List (List Event)) (c : Core) : Type 0 where
   pub some_clear : (n : Event) → 1 ≤ all_pulses lists c.phases n → 1 ≤ all_clear lists c.phases n
   pub collected : (a : Actor) (n : Event) → in_hand (c.phases a) n ≡ true → has_collected (c.phases a) (word_of n) ≡ true
 
--- a sound core by these sentences: its history is legal, each actor is in a phase of its kind, and they hold
+-- A sound core by these sentences: its history is legal, each actor is in a phase of its kind, and they hold. That no code waits
+-- for nothing is the same sentence in both, CodesSound.
 pub record SoundAsSaid (m : MachineData) (c : Core) : Type 0 where
   pub legal : Legal m c.history
   pub kinds : AreOfKind c.phases
