@@ -5,10 +5,8 @@ use Rattle.std.specs.declared.alloc.Global.{Global}
 use Rattle.acpi_io.specs.Sink.{AddsFront}
 use Rattle.acpi_io.specs.Source.{TakesExactly, TakesUpTo}
 use Rattle.acpi_regs.specs.declared.entry.Entry.{Entry}
-use Rattle.acpi_regs.specs.Core.{Core, first_core}
-use Rattle.machine_desc.specs.Actors.{actors_of}
 use Rattle.machine_desc.specs.Machine.{MachineData}
-use Rattle.machine_history.specs.Played.{Played, Settles}
+use Rattle.machine_history.specs.Played.{Played}
 use Rattle.machine_reader.specs.declared.fault.ReaderFault.{ReaderFault}
 use Rattle.machine_reader.specs.declared.fault.ReaderFault.TheVariants as fault
 use Rattle.machine_reader.specs.Canonical.{canonical}
@@ -30,13 +28,10 @@ ReadsWhole limit left left' bytes = (length bytes ≤ limit) × Consumes left le
 abbrev pub text : MachineData → List Entry → List ℕ
 text m history = log_text m (canonical m) history
 
--- the history after rounds alone, in the order in which actors are served
-abbrev pub InRounds : MachineData → List Entry → Type 0
-InRounds m history = (c : Core) × Settles m (actors_of m) first_core c × (history ≡ c.history)
-
--- the history that a command writes, where it writes one: the one that rounds lead to, and in a replay the schedule before them
+-- the history that a command writes, where it writes one: of a run any, as its threads took turns; of a replay the one that the
+-- machine plays, by its schedule and then in rounds
 abbrev pub IsMade : Command → MachineData → List Entry → Type 0
-IsMade command.Run m history = InRounds m history
+IsMade command.Run m history = Unit {0}
 IsMade command.Replay m history = Played m history
 IsMade command.Check m history = ⊥
 

@@ -5,9 +5,9 @@ ghost use Rattle.acpi_commands.specs.Words.{Commands, IsWord, limit_of};
 /// What the program is to do.
 #[derive(Clone, Copy, Debug)]
 pub enum Command {
-    /// Run the machine, in rounds of its actors.
+    /// Run the machine, each actor on a thread of its own.
     Run,
-    /// Run the machine by its schedule, a step a name, and then in rounds.
+    /// Run the machine on one thread, by its schedule, a step a name, and then in rounds.
     Replay,
     /// Judge a log.
     Check,

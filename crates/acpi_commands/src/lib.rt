@@ -6,22 +6,27 @@
 //! `specs/Headline.antt`, sentence by sentence; what is said of a log that is judged is `specs/Check.antt`. [`end`] then
 //! tells a refusal and gives the exit code (`specs/Ending.antt`).
 //! The program's `main`, which hands these the words and the standard streams, is a crate of its own. The crate stands on
-//! `machine_reader`, which reads descriptions and writes them, on `sci_threads`, which runs a machine's actors to their end,
-//! on `history_text`, which writes the log and reads one, on `run_checker`, which judges it, and on `acpi_io`.
+//! `threaded_run`, which runs a machine on threads, on `sci_threads`, which replays one on a single thread, on `machine_reader`,
+//! which reads descriptions, on `history_text`, which writes the log and reads one, on `run_checker`, which judges it, and on
+//! `acpi_io`.
 #![tactic(auto)]
 
 mod check;
 mod command;
 mod ending;
 pub mod laws;
+mod log;
 mod names;
-mod prepared;
 mod program;
+mod replay;
 mod run;
+mod staged;
 mod status;
 #[cfg(test)]
 mod tests;
 
+pub use acpi_regs::{Gate, OpenGate};
 pub use ending::end;
 pub use program::acpi_events;
 pub use status::Status;
+pub use threaded_run::{Prepared, Raced, carry_out, prepare_run, race};

@@ -6,27 +6,33 @@ ghost use Rattle.acpi_commands.specs.Words.{IsCommand, limit_of};
 
 use crate::check::check_log;
 use crate::command::{Command, command_of};
+use crate::replay::replay;
 use crate::run::run;
 use crate::status::Status;
 use acpi_io::{ReadAllFault, Sink, Source, read_all};
+use acpi_regs::Gate;
 use std::alloc::Global;
+use std::thread::Threads;
 
 /// Does what the words say, and answers how it went.
 ///
-/// The word `run` reads a description from the source, runs its machine in rounds of its actors, and writes the log of what
-/// happened to the sink. The word `replay` does the same, and gives each name of the description's schedule a step first. The
-/// word `check` reads a log, judges it, and writes `complete` and the number of its entries where it is complete.
+/// The word `run` reads a description from the source, runs its machine with each actor on a thread of its own, and writes the
+/// log of what happened to the sink. Each actor passes the gate before each step on its thread. The word `replay` runs the
+/// machine on one thread: each name of the description's schedule has a step, and then come rounds. The word `check` reads a
+/// log, judges it, and writes `complete` and the number of its entries where it is complete.
 ///
 /// Refusals come in this order: `Usage`; `ReadFault` or `TooLarge`, as the reading meets them; for a description `NotJson`,
 /// `BadShape`, `BadMachine`, `TooLong`, and for a log `BadLog`, `Illegal`, `Unfinished`; `WriteFault`. `Memory` may come in place
 /// of each but `Usage`, before the machine runs or the verdict stands, and only where the words are a command, no read failed
 /// and no more bytes were taken than the command reads. After every refusal but `WriteFault` nothing was written, and after
 /// that one a front of the text was.
-pub fn acpi_events<S: Source, K: Sink>(
+pub fn acpi_events<R: Threads + Sync, S: Source, K: Sink, G: Gate>(
+    rt: &R,
     alloc: Global,
     words: &[String],
     source: &mut S,
     sink: &mut K,
+    gate: &G,
 ) -> Status
     ensures answers { Answers words.now (source.new ≡ source.old) (sink.new ≡ sink.old)
         (S.left source.old) (S.left source.new) (K.held sink.old) (K.held sink.new) result }
@@ -53,15 +59,17 @@ pub fn acpi_events<S: Source, K: Sink>(
     ensures reads { (c : Command) → IsCommand words.now c
         → S.reads source.new ≤ S.reads source.old + (limit_of c + 1) }
 {
-    answer(alloc, words, source, sink)
+    answer(rt, alloc, words, source, sink, gate)
 }
 
 /// `acpi_events`, whose clause on completeness follows from these.
-fn answer<S: Source, K: Sink>(
+fn answer<R: Threads + Sync, S: Source, K: Sink, G: Gate>(
+    rt: &R,
     alloc: Global,
     words: &[String],
     source: &mut S,
     sink: &mut K,
+    gate: &G,
 ) -> Status
     ensures answers { Answers words.now (source.new ≡ source.old) (sink.new ≡ sink.old)
         (S.left source.old) (S.left source.new) (K.held sink.old) (K.held sink.new) result }
@@ -79,17 +87,19 @@ fn answer<S: Source, K: Sink>(
         → S.reads source.new ≤ S.reads source.old + (limit_of c + 1) }
 {
     match command_of(words) {
-        Some(command) => carry_out(alloc, command, source, sink),
+        Some(command) => obey(rt, alloc, command, source, sink, gate),
         None => Status::Usage,
     }
 }
 
 /// Reads what a command takes, and does it.
-fn carry_out<S: Source, K: Sink>(
+fn obey<R: Threads + Sync, S: Source, K: Sink, G: Gate>(
+    rt: &R,
     alloc: Global,
     command: Command,
     source: &mut S,
     sink: &mut K,
+    gate: &G,
 ) -> Status
     ensures answers { ByCommand command (sink.new ≡ sink.old)
         (S.left source.old) (S.left source.new) (K.held sink.old) (K.held sink.new) result }
@@ -106,7 +116,7 @@ fn carry_out<S: Source, K: Sink>(
     ensures reads { S.reads source.new ≤ S.reads source.old + (limit_of command + 1) }
 {
     match read_all(alloc, source, command.limit()) {
-        Ok(bytes) => perform(alloc, command, &bytes, sink),
+        Ok(bytes) => perform(rt, alloc, command, &bytes, sink, gate),
         Err(ReadAllFault::ReadFault) => Status::ReadFault,
         Err(ReadAllFault::TooLarge) => Status::TooLarge,
         Err(ReadAllFault::Memory) => Status::Memory,
@@ -114,7 +124,14 @@ fn carry_out<S: Source, K: Sink>(
 }
 
 /// Does a command with what it has read.
-fn perform<K: Sink>(alloc: Global, command: Command, bytes: &[u8], sink: &mut K) -> Status
+fn perform<R: Threads + Sync, K: Sink, G: Gate>(
+    rt: &R,
+    alloc: Global,
+    command: Command,
+    bytes: &[u8],
+    sink: &mut K,
+    gate: &G,
+) -> Status
     requires { length bytes.now ≤ limit_of command }
     ensures ends { Does command bytes.now (sink.new ≡ sink.old)
         (K.held sink.old) (K.held sink.new) result }
@@ -123,8 +140,8 @@ fn perform<K: Sink>(alloc: Global, command: Command, bytes: &[u8], sink: &mut K)
     ensures told { ¬ result ≡ Status.WriteFault → K.faults sink.new ≡ K.faults sink.old }
 {
     match command {
-        Command::Run => run(alloc, Command::Run, bytes, sink),
-        Command::Replay => run(alloc, Command::Replay, bytes, sink),
+        Command::Run => run(rt, alloc, bytes, sink, gate),
+        Command::Replay => replay(alloc, bytes, sink),
         Command::Check => check_log(alloc, bytes, sink),
     }
 }

@@ -1,6 +1,6 @@
 //! The program over sources and sinks in memory, which fail at a call, have no room, or give too much. Tables of descriptions
 //! with their answers and logs stand in the crates `description_verdicts` and `machine_runs`.
-use crate::{Status, acpi_events, end};
+use crate::{OpenGate, Status, acpi_events, end};
 use acpi_io::{MemorySink, MemorySource, ReadOutcome, Source};
 use acpi_regs::Actor;
 use machine_core::LogRule;
@@ -8,6 +8,7 @@ use machine_desc::{BadMachine, Part, Place, Rule};
 use std::alloc::{AllocError, Global};
 use std::process::ExitCode;
 use std::test::Fail;
+use std::thread::Threads;
 
 /// The machine with nothing in it.
 const EMPTY: &str =
@@ -68,18 +69,29 @@ fn words(alloc: Global, texts: &[&str]) -> Result<Vec<String>, AllocError> {
 }
 
 /// Runs the program with the word `run`.
-fn run(alloc: Global, description: &[u8], faults: Faults) -> Result<Outcome, Fail> {
-    call(alloc, "run", description, faults)
+fn run<R: Threads + Sync>(
+    rt: &R,
+    alloc: Global,
+    description: &[u8],
+    faults: Faults,
+) -> Result<Outcome, Fail> {
+    call(rt, alloc, "run", description, faults)
 }
 
 /// Runs the program with one word.
-fn call(alloc: Global, word: &str, input: &[u8], faults: Faults) -> Result<Outcome, Fail> {
+fn call<R: Threads + Sync>(
+    rt: &R,
+    alloc: Global,
+    word: &str,
+    input: &[u8],
+    faults: Faults,
+) -> Result<Outcome, Fail> {
     let most = faults.most.max(1);
     let words = words(alloc, &[word])?;
     let bytes = input.to_vec(alloc)?;
     let mut source = MemorySource::new(bytes, numbers(alloc, faults.read)?, most);
     let mut sink = MemorySink::new(alloc, numbers(alloc, faults.write)?, most, 1 << 20)?;
-    let status = acpi_events(alloc, &words, &mut source, &mut sink);
+    let status = acpi_events(rt, alloc, &words, &mut source, &mut sink, &OpenGate);
     Ok(Outcome {
         status,
         held: sink.held().to_vec(alloc)?,
@@ -101,7 +113,7 @@ fn times(text: &str, part: &str) -> usize {
 fn a_notebook_runs_and_its_log_is_complete(rt: HostRuntime) -> Result<(), Fail> {
     let alloc = rt.alloc();
     for word in ["run", "replay"] {
-        let outcome = call(alloc, word, NOTEBOOK.as_bytes(), NO_FAULTS)?;
+        let outcome = call(&rt, alloc, word, NOTEBOOK.as_bytes(), NO_FAULTS)?;
         assert_eq!(rt; outcome.status, Status::Ok);
         let log = str::from_utf8(&outcome.held).unwrap_or("");
         for notify in ["01 80", "02 80", "03 80", "04 80", "05 81"] {
@@ -110,7 +122,7 @@ fn a_notebook_runs_and_its_log_is_complete(rt: HostRuntime) -> Result<(), Fail> 
         }
         assert_eq!(rt; times(log, " write 00:0000 09\n"), 1);
         assert_eq!(rt; times(log, "\nstuck "), 0);
-        let verdict = call(alloc, "check", log.as_bytes(), NO_FAULTS)?;
+        let verdict = call(&rt, alloc, "check", log.as_bytes(), NO_FAULTS)?;
         assert_eq!(rt; verdict.status, Status::Ok);
         // The machine's line and the last one are no entries.
         let entries = times(log, "\n").saturating_sub(2);
@@ -125,6 +137,7 @@ fn the_empty_machine_and_two_accesses_run(rt: HostRuntime) -> Result<(), Fail> {
     for (description, log) in [(EMPTY, EMPTY_LOG), (TWO, TWO_LOG)] {
         for most in [1, 7, 16, 65536] {
             let outcome = run(
+                &rt,
                 rt.alloc(),
                 description.as_bytes(),
                 Faults { most, ..NO_FAULTS },
@@ -140,7 +153,7 @@ fn the_empty_machine_and_two_accesses_run(rt: HostRuntime) -> Result<(), Fail> {
 fn every_cut_description_is_no_json(rt: HostRuntime) -> Result<(), Fail> {
     let bytes = TWO.as_bytes();
     for len in 0..bytes.len() {
-        let outcome = run(rt.alloc(), &bytes[..len], NO_FAULTS)?;
+        let outcome = run(&rt, rt.alloc(), &bytes[..len], NO_FAULTS)?;
         assert_eq!(rt; outcome.status, Status::NotJson, "the first {len} bytes");
         assert!(rt; outcome.held.is_empty());
     }
@@ -160,7 +173,7 @@ fn a_failing_read_is_a_read_fault(rt: HostRuntime) -> Result<(), Fail> {
                 write: None,
                 most,
             };
-            let outcome = run(rt.alloc(), bytes, faults)?;
+            let outcome = run(&rt, rt.alloc(), bytes, faults)?;
             assert_eq!(rt;
                 outcome.status,
                 Status::ReadFault,
@@ -169,6 +182,7 @@ fn a_failing_read_is_a_read_fault(rt: HostRuntime) -> Result<(), Fail> {
             assert_eq!(rt; outcome.writes, 0);
         }
         let outcome = run(
+            &rt,
             rt.alloc(),
             bytes,
             Faults {
@@ -183,7 +197,7 @@ fn a_failing_read_is_a_read_fault(rt: HostRuntime) -> Result<(), Fail> {
         read: Some(0),
         ..NO_FAULTS
     };
-    let outcome = run(rt.alloc(), EMPTY.as_bytes(), first)?;
+    let outcome = run(&rt, rt.alloc(), EMPTY.as_bytes(), first)?;
     assert_eq!(rt; outcome.status, Status::ReadFault);
     assert_eq!(rt; outcome.writes, 0);
     Ok(())
@@ -200,7 +214,7 @@ fn a_failing_write_is_a_write_fault(rt: HostRuntime) -> Result<(), Fail> {
                 write: Some(number as u64),
                 most,
             };
-            let outcome = run(rt.alloc(), TWO.as_bytes(), faults)?;
+            let outcome = run(&rt, rt.alloc(), TWO.as_bytes(), faults)?;
             assert_eq!(rt;
                 outcome.status,
                 Status::WriteFault,
@@ -222,7 +236,7 @@ fn a_failing_write_of_a_replay_leaves_a_front_of_the_log(rt: HostRuntime) -> Res
         write: Some(2),
         most: 16,
     };
-    let outcome = call(alloc, "replay", BUTTON.as_bytes(), faults)?;
+    let outcome = call(&rt, alloc, "replay", BUTTON.as_bytes(), faults)?;
     assert_eq!(rt; outcome.status, Status::WriteFault);
     let machine_line = format!(in alloc; "machine {BUTTON}\n")?;
     assert!(rt; outcome.held.as_slice() == &machine_line.as_bytes()[..32]);
@@ -236,7 +250,7 @@ fn a_sink_with_no_room_left_is_a_write_fault(rt: HostRuntime) -> Result<(), Fail
     let mut source = MemorySource::new(TWO.as_bytes().to_vec(alloc)?, Vec::new(alloc), 100);
     let mut sink = MemorySink::new(alloc, Vec::new(alloc), 16, 32)?;
     assert_eq!(rt;
-        acpi_events(alloc, &words, &mut source, &mut sink),
+        acpi_events(&rt, alloc, &words, &mut source, &mut sink, &OpenGate),
         Status::WriteFault
     );
     assert!(rt; sink.held() == &TWO_LOG.as_bytes()[..32]);
@@ -280,7 +294,7 @@ fn words_that_are_no_command_leave_the_source_unread(rt: HostRuntime) -> Result<
         let mut source = Unread { reads: 0 };
         let mut sink = MemorySink::new(alloc, Vec::new(alloc), 1, 8)?;
         assert_eq!(rt;
-            acpi_events(alloc, &words, &mut source, &mut sink),
+            acpi_events(&rt, alloc, &words, &mut source, &mut sink, &OpenGate),
             Status::Usage
         );
         assert_eq!(rt; source.reads, 0);
@@ -293,7 +307,7 @@ fn words_that_are_no_command_leave_the_source_unread(rt: HostRuntime) -> Result<
 fn one_byte_more_than_a_description_may_have_is_too_large(rt: HostRuntime) -> Result<(), Fail> {
     for (len, status) in [(4_194_304, Status::NotJson), (4_194_305, Status::TooLarge)] {
         let spaces = vec![in rt.alloc(); b' '; len]?;
-        let outcome = run(rt.alloc(), &spaces, NO_FAULTS)?;
+        let outcome = run(&rt, rt.alloc(), &spaces, NO_FAULTS)?;
         assert_eq!(rt; outcome.status, status);
         assert_eq!(rt; outcome.writes, 0);
     }
@@ -364,7 +378,7 @@ fn a_large_description_runs(rt: HostRuntime) -> Result<(), Fail> {
             }
         }
         log.push_str(if firmware { "rest 4096\n" } else { "rest 0\n" })?;
-        let outcome = run(alloc, description.as_bytes(), NO_FAULTS)?;
+        let outcome = run(&rt, alloc, description.as_bytes(), NO_FAULTS)?;
         assert_eq!(rt; outcome.status, Status::Ok);
         assert!(rt; outcome.held.as_slice() == log.as_bytes());
     }
@@ -374,7 +388,7 @@ fn a_large_description_runs(rt: HostRuntime) -> Result<(), Fail> {
 #[test]
 fn a_log_of_4096_entries_reaches_the_sink_in_few_writes(rt: HostRuntime) -> Result<(), Fail> {
     let description = many_writes(rt.alloc(), 4096)?;
-    let outcome = run(rt.alloc(), description.as_bytes(), NO_FAULTS)?;
+    let outcome = run(&rt, rt.alloc(), description.as_bytes(), NO_FAULTS)?;
     assert_eq!(rt; outcome.status, Status::Ok);
     assert!(rt; outcome.writes < 100, "{} writes", outcome.writes);
     assert!(rt;
@@ -383,7 +397,7 @@ fn a_log_of_4096_entries_reaches_the_sink_in_few_writes(rt: HostRuntime) -> Resu
             .ends_with(b"\nf0 write 00:0000 01\nrest 4096\n")
     );
     let description = many_writes(rt.alloc(), 4097)?;
-    let outcome = run(rt.alloc(), description.as_bytes(), NO_FAULTS)?;
+    let outcome = run(&rt, rt.alloc(), description.as_bytes(), NO_FAULTS)?;
     let text = format!(in rt.alloc(); "{}", outcome.status)?;
     assert!(rt; text.as_str() == "BadMachine LongScript Firmware 0 4096");
     Ok(())
@@ -410,7 +424,7 @@ fn a_log_that_is_not_complete_is_refused(rt: HostRuntime) -> Result<(), Fail> {
         ("f0 write 00:0000 5A\n", 10, "BadLog 3"),
     ] {
         let log = format!(in alloc; "{machine}\n{lines}")?;
-        let verdict = call(alloc, "check", log.as_bytes(), NO_FAULTS)?;
+        let verdict = call(&rt, alloc, "check", log.as_bytes(), NO_FAULTS)?;
         assert_eq!(rt; verdict.status.code(), code, "{lines}");
         let text = format!(in alloc; "{}", verdict.status)?;
         assert!(rt; text.as_str() == said, "{lines}");

@@ -5,11 +5,12 @@
 //! follow that of the command, only the lines of the log are written in which one of them stands.
 #![tactic(auto)]
 
-use acpi_commands::{Status, acpi_events};
+use acpi_commands::{OpenGate, Status, acpi_events};
 use acpi_io::{MemorySink, MemorySource, ReadAllFault, StdSource, read_all};
 use std::alloc::{AllocError, Global};
 use std::io;
 use std::process::ExitCode;
+use std::thread::Threads;
 
 /// The greatest length of the input, in bytes.
 const LIMIT: usize = 8_388_608;
@@ -31,7 +32,7 @@ fn main(rt: HostRuntime) -> io::Result<ExitCode> {
             (None, _) => name = Some(line),
             (Some(_), None) => word = Some(line),
             (Some(given), Some(command)) => {
-                let said = said(rt.alloc(), command, line)?;
+                let said = said(&rt, rt.alloc(), command, line)?;
                 println!(&rt; "= {}\n{said}", str::from_utf8(given).unwrap_or("?"))?;
                 (name, word) = (None, None);
             }
@@ -41,7 +42,12 @@ fn main(rt: HostRuntime) -> io::Result<ExitCode> {
 }
 
 /// What a call of the program writes behind its first line, or its status.
-fn said(alloc: Global, case: &[u8], input: &[u8]) -> Result<String, AllocError> {
+fn said<R: Threads + Sync>(
+    rt: &R,
+    alloc: Global,
+    case: &[u8],
+    input: &[u8],
+) -> Result<String, AllocError> {
     let case = str::from_utf8(case).unwrap_or("?");
     let (word, picked) = case.split_once(" ").unwrap_or((case, ""));
     let mut words = Vec::new(alloc);
@@ -50,7 +56,7 @@ fn said(alloc: Global, case: &[u8], input: &[u8]) -> Result<String, AllocError> 
     let Ok(mut sink) = MemorySink::new(alloc, Vec::new(alloc), ROOM, ROOM) else {
         return Err(AllocError);
     };
-    match acpi_events(alloc, &words, &mut source, &mut sink) {
+    match acpi_events(rt, alloc, &words, &mut source, &mut sink, &OpenGate) {
         Status::Ok => lines(alloc, str::from_utf8(sink.held()).unwrap_or("?"), picked),
         refusal => format!(in alloc; "{refusal}"),
     }

@@ -5,4 +5,4 @@ use Rattle.acpi_commands.proofs.program.answer.Goals as goal
 
 pub returns-in-Some-clause-answers : goal.returns-in-Some-clause-answers
 returns-in-Some-clause-answers g c =
-    answered c.args.words.now _ _ _ _ _ _ c.in-Some.command c.carry_out.result (subst (λ o. Commands c.args.words.now o) c.in-Some.is c.command_of.ensures) c.carry_out.ensures.answers
+    answered c.args.words.now _ _ _ _ _ _ c.in-Some.command c.obey.result (subst (λ o. Commands c.args.words.now o) c.in-Some.is c.command_of.ensures) c.obey.ensures.answers

@@ -1,5 +1,5 @@
 use Rattle.acpi_commands.proofs.Starting.{fresh}
-use Rattle.acpi_commands.proofs.run.prepared.Goals as goal
+use Rattle.acpi_commands.proofs.replay.with_room.Goals as goal
 
 pub invariant_of-result : goal.invariant_of-result
 invariant_of-result c =
