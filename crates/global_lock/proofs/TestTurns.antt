@@ -110,11 +110,11 @@ pub seat_in : (id : TableName) (a : Actor) (k : SeatPhase) (s : Pass) → Rests 
 seat_in id a k s h = each (λ p. (p.actor ≡ a) × IsAt k p) (IsAt k) (λ p is. is.1) s.view.who h.2
 
 -- after an exchange of the lock's word
-pub tried_rests : (id : TableName) (a : Actor) (k : SeatPhase) (q : LockPhase) (n : ℕ) (s t : Pass) → t.table ≡ s.table → t.view ≡ with_one (exchanged q n) s.view → Rests id a k s → Rests id a (kept.Lock q) t
-tried_rests id a k q n s t same view h = (
+pub tried_rests : (id : TableName) (a : Actor) (k : SeatPhase) (q : LockPhase) (l n : ℕ) (s t : Pass) → t.table ≡ s.table → t.view ≡ with_one (exchanged q l n) s.view → Rests id a k s → Rests id a (kept.Lock q) t
+tried_rests id a k q l n s t same view h = (
   same ∙ h.0,
   ap (λ (v : View). v.stage) view ∙ h.1,
-  subst (IsSeatOf (IsAt (kept.Lock q)) a) (sym view) (of_one (λ p. (p.actor ≡ a) × IsAt k p) (λ p. (p.actor ≡ a) × IsAt (kept.Lock q) p) (exchanged q n) (λ p is. (is.0, refl)) s.view.who h.2),
+  subst (IsSeatOf (IsAt (kept.Lock q)) a) (sym view) (of_one (λ p. (p.actor ≡ a) × IsAt k p) (λ p. (p.actor ≡ a) × IsAt (kept.Lock q) p) (exchanged q l n) (λ p is. (is.0, refl)) s.view.who h.2),
 )
 
 -- two names of one seat's actor
@@ -129,14 +129,14 @@ same_name P Q a b v h k = of v.who h k
 -- attempts leave the seat where it was
 fails_stage : (k : ℕ) (v w : View) → Fails k v w → w.stage ≡ v.stage
 fails_stage zero v w h = ap (λ (u : View). u.stage) h
-fails_stage (suc k) v w h = ap (λ (u : View). u.stage) h.4.1 ∙ fails_stage k v h.0 h.3
+fails_stage (suc k) v w h = ap (λ (u : View). u.stage) h.4.3 ∙ fails_stage k v h.0 h.3
 
 pub owns_rests : (id : TableName) (a seeking won : Actor) (k : SeatPhase) (s t : Pass) → t.table ≡ s.table → IsSeatOf IsSeeking seeking s.view → Acquires seeking s.view (acquired.Owned won) t.view → Rests id a k s → Rests id a (kept.Lock lock.Won) t
 owns_rests id a seeking won k s t same seeks acquires h =
     let name = same_name IsSeeking (IsAt k) seeking a s.view seeks h.2 in
     let one = acquires.1 in (
       same ∙ h.0,
-      ap (λ (u : View). u.stage) one.3.2 ∙ fails_stage one.0 s.view one.1 one.2 ∙ h.1,
+      ap (λ (u : View). u.stage) one.3.3 ∙ fails_stage one.0 s.view one.1 one.2 ∙ h.1,
       subst (λ b. IsSeatOf (IsAt (kept.Lock lock.Won)) b t.view) name acquires.2,
     )
 

@@ -22,25 +22,25 @@ has_loaded n v seeks = of (v.who) seeks
 abbrev behind : ℕ → ℕ → LockPhase
 behind l n = cond (n == l) (tried l) (lock.Seeking None)
 
-tries_loaded : (l n : ℕ) (v : View) → tries l n (loads l v) ≡ with_one (exchanged (behind l n) n) v
-tries_loaded l n v = ap (λ w. record { who = w; seen = v.seen; told = v.told; stage = v.stage }) (of v.who)
+tries_loaded : (l n : ℕ) (v : View) → tries l n (loads l v) ≡ with_one (exchanged (behind l n) l n) v
+tries_loaded l n v = ap (λ w. record { who = w; seen = v.seen; told = v.told; stage = v.stage; turns = v.turns; misses = v.misses }) (of v.who)
   where
-    of : (w : Occupant) → map_one (trying l n) (map_one (loading l) w) ≡ map_one (exchanged (behind l n) n) w
+    of : (w : Occupant) → map_one (trying l n) (map_one (loading l) w) ≡ map_one (exchanged (behind l n) l n) w
     of (who.Root ps) = refl
     of (who.One p) = refl
     of who.Nobody = refl
 
-left : (l n : ℕ) (v w : View) (q : LockPhase) → w ≡ tries l n (loads l v) → behind l n ≡ q → w ≡ with_one (exchanged q n) v
-left l n v w q is phase = is ∙ tries_loaded l n v ∙ ap (λ p. with_one (exchanged p n) v) phase
+left : (l n : ℕ) (v w : View) (q : LockPhase) → w ≡ tries l n (loads l v) → behind l n ≡ q → w ≡ with_one (exchanged q l n) v
+left l n v w q is phase = is ∙ tries_loaded l n v ∙ ap (λ p. with_one (exchanged p l n) v) phase
 
-pub moved : (l n : ℕ) (v w : View) → w ≡ tries l n (loads l v) → l ≢ n → w ≡ with_one (exchanged (lock.Seeking None) n) v
+pub moved : (l n : ℕ) (v w : View) → w ≡ tries l n (loads l v) → l ≢ n → w ≡ with_one (exchanged (lock.Seeking None) l n) v
 moved l n v w is apart = left l n v w (lock.Seeking None) is (ap (λ b. cond b (tried l) (lock.Seeking None)) (ne_eqb n l (λ e. apart (sym e))))
 
 same_word : (l n : ℕ) (q : LockPhase) → l ≡ n → tried n ≡ q → behind l n ≡ q
 same_word l n q same is = ap (λ b. cond b (tried l) (lock.Seeking None)) (eq-eqb n l (sym same)) ∙ ap tried same ∙ is
 
-pub marked : (l n : ℕ) (v w : View) → w ≡ tries l n (loads l v) → l ≡ n → is_owned n ≡ true → w ≡ with_one (exchanged lock.Marked n) v
-marked l n v w is same owned = left l n v w lock.Marked is (same_word l n lock.Marked same (ap (λ b. cond b lock.Marked lock.Won) owned))
+pub marked : (l n : ℕ) (v w : View) → w ≡ tries l n (loads l v) → l ≡ n → is_owned n ≡ true → w ≡ with_one (exchanged lock.Marked n n) v
+marked l n v w is same owned = left l n v w lock.Marked is (same_word l n lock.Marked same (ap (λ b. cond b lock.Marked lock.Won) owned)) ∙ ap (λ x. with_one (exchanged lock.Marked x n) v) same
 
-pub won : (l n : ℕ) (v w : View) → w ≡ tries l n (loads l v) → l ≡ n → is_owned n ≡ false → w ≡ with_one (exchanged lock.Won n) v
-won l n v w is same free = left l n v w lock.Won is (same_word l n lock.Won same (ap (λ b. cond b lock.Marked lock.Won) free))
+pub won : (l n : ℕ) (v w : View) → w ≡ tries l n (loads l v) → l ≡ n → is_owned n ≡ false → w ≡ with_one (exchanged lock.Won n n) v
+won l n v w is same free = left l n v w lock.Won is (same_word l n lock.Won same (ap (λ b. cond b lock.Marked lock.Won) free)) ∙ ap (λ x. with_one (exchanged lock.Won x n) v) same

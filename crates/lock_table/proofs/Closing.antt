@@ -90,6 +90,7 @@ module _ {B X : Type 0} (lists : X → List (List Event)) (base : B → X) (entr
           word = word_is f f_is;
           pins = λ n _. k.pinned n ∙ ap (λ l. pins_of l n) five;
           stands = subst (λ w. EachPart (StandsIn k.core) (root_parts w)) (sym root.1) (each_map (Sits k.core k.seat_of id) (StandsIn k.core) (λ p h. h.2) root.0 (sits s k id v at root away all));
+          absent = k.absent;
           sound = k.sound;
         };
   }

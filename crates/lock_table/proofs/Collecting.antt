@@ -70,7 +70,7 @@ of_found P a (p ∷ ps) h some = by_test (of_found P a ps h.1) (same_actor a p.a
 
 away_of : (g : Stage) → (g ≢ stage.Away → ⊥) → g ≡ stage.Away
 away_of stage.Away h = refl
-away_of stage.Holding h = absurd (h (λ e. cc))
+away_of stage.Carrying h = absurd (h (λ e. cc))
 away_of stage.Inside h = absurd (h (λ e. cc))
 
 unheld : (g : Stage) (w : Occupant) → g ≡ stage.Away → HoldsInTurn g w → EachPart NotHolding (parts_in w)
@@ -154,7 +154,7 @@ module _ {B X : Type 0} (lists : X → List (List Event)) (base : B → X) (entr
           let within : w < length h.pins = let five = h.five in omega arith in
           let words : set s.words i 0 ≡ h.turn ∷ c.word ∷ set h.pins w 0 = ap (λ ws. set ws i 0) h.words ∙ set_past_two h.turn c.word h.pins i w 0 place in
           subst (λ u. Rule (record { words = set s.words i 0; homes = s.homes; views = set s.views id u })) (sym (of_one (sweeping n) x.0 p one))
-          (keeps_one lists base entries key s h id x.0 p at one (kept.Holding (hand ++ n ∷ [])) p.tried p.found (p.swept + 1) q
+          (keeps_one lists base entries key s h id x.0 p at one (kept.Holding (hand ++ n ∷ [])) p.tried p.found p.loaded (p.swept + 1) q
           (λ j. Holding (collected_is j) (hand_is j))
           c.word (set h.pins w 0) (λ y. c.pins y && not (word_of y == w)) (set s.words i 0)
           (length-set h.pins w 0 ∙ h.five)

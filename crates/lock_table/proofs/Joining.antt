@@ -208,6 +208,7 @@ module _ {B X : Type 0} (lists : X → List (List Event)) (base : B → X) (entr
       home = k.home;
       out = is_out;
       sound = k.sound;
+      absent = k.absent;
       seated = is_seated;
       fits = fits_at;
     }
@@ -227,7 +228,7 @@ module _ {B X : Type 0} (lists : X → List (List Event)) (base : B → X) (entr
       let f = k.fits id v at in
       built lists base entries key s k id v (learned v) at k.turn k.holder k.core s.homes (set s.words 0 (get_or s.words 0 0))
       (set-get_or s.words 0 0 ∙ k.words) k.pinned k.home (still_out lists base entries key s k id v (learned v) at (λ inside. inside))
-      k.sound (λ a found. found)
+      k.sound k.absent (λ a found. found)
       (λ j u other there. others_same lists base entries key s k id v (learned v) at k.turn k.holder s.homes j u (λ has. has) there)
       (record {
         seen = (longer_begins k.core.history v.seen v.told f.seen f.told).0;

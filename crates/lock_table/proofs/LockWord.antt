@@ -1,5 +1,5 @@
 -- The steps on the Global Lock's word keep the rule.
-use Rattle.std.proofs.Common.{◌≡◌, ◌==◌, ◌+◌, cond, ℕ, Bool, true, false, List, ◌∷◌, get_or, set, refl, sym, ap, subst, ◌∙◌, Option, Some, None}
+use Rattle.std.proofs.Common.{◌≡◌, ◌==◌, ◌+◌, cond, ℕ, Bool, true, false, List, [], ◌∷◌, ◌++◌, get_or, set, refl, sym, ap, subst, ◌∙◌, Option, Some, None}
 use mathlib.Core.Option as m
 use lib.ListN.{get_elem?}
 use prog.Atomic.{either}
@@ -65,7 +65,7 @@ module _ {B X : Type 0} (lists : X → List (List Event)) (base : B → X) (entr
           let n = get_or s.words 1 0 in
           let a_phase = sym (phase_in s h id x.0 p at one) ∙ ap phase_of is in
           subst (λ u. Rule (record { words = set s.words 1 n; homes = s.homes; views = set s.views id u })) (sym (of_one (loading n) x.0 p one))
-          (keeps_one lists base entries key s h id x.0 p at one (kept.Lock (lock.Seeking (Some n))) p.tried p.found p.swept (Lock (lock.Seeking (Some h.core.word)))
+          (keeps_one lists base entries key s h id x.0 p at one (kept.Lock (lock.Seeking (Some n))) p.tried p.found (p.loaded ++ n ∷ []) p.swept (Lock (lock.Seeking (Some h.core.word)))
           (ap (λ w. Lock (lock.Seeking (Some w))) (found s h))
           h.core.word h.pins h.core.pins (set s.words 1 n) h.five h.pinned
           (core_known_step (lists (base key)) h.core (Load p.actor) tt h.sound (l, a_phase))
@@ -88,7 +88,7 @@ module _ {B X : Type 0} (lists : X → List (List Event)) (base : B → X) (entr
           ap (λ ws. set ws 1 (either (get_or ws 1 0 == l) new (get_or ws 1 0))) h.words
           ∙ ap (λ w. h.turn ∷ w ∷ h.pins) (either_is (h.core.word == l) new h.core.word ∙ ap (λ w. cond (h.core.word == l) w h.core.word) is_new) in
           subst (λ u. Rule (record { words = set s.words 1 (either (n == l) new n); homes = s.homes; views = set s.views id u })) (sym (of_one (trying l n) x.0 p one))
-          (keeps_one lists base entries key s h id x.0 p at one (kept.Lock (cond (n == l) (tried l) (lock.Seeking None))) (p.tried + 1) n p.swept (Lock (cond (h.core.word == l) (tried l) (lock.Seeking None)))
+          (keeps_one lists base entries key s h id x.0 p at one (kept.Lock (cond (n == l) (tried l) (lock.Seeking None))) (p.tried + 1) n p.loaded p.swept (Lock (cond (h.core.word == l) (tried l) (lock.Seeking None)))
           (ap (λ w. Lock (cond (w == l) (tried l) (lock.Seeking None))) (found s h))
           (cond (h.core.word == l) (acquired l) h.core.word) h.pins h.core.pins (set s.words 1 (either (n == l) new n)) h.five h.pinned
           (subst (CoreSound (lists (base key))) (is_exchanged h.core p.actor l a_phase) (core_known_step (lists (base key)) h.core (Exchange p.actor) tt h.sound (l, a_phase)))
@@ -108,7 +108,7 @@ module _ {B X : Type 0} (lists : X → List (List Event)) (base : B → X) (entr
           let n = get_or s.words 1 0 in
           let a_phase = sym (phase_in s h id x.0 p at one) ∙ ap phase_of is in
           subst (λ u. Rule (record { words = set s.words 1 0; homes = s.homes; views = set s.views id u })) (sym (of_one (releasing n) x.0 p one))
-          (keeps_one lists base entries key s h id x.0 p at one (kept.Lock (lock.Gone (is_pending n))) (p.tried + 1) n p.swept (Lock (lock.Gone (is_pending h.core.word)))
+          (keeps_one lists base entries key s h id x.0 p at one (kept.Lock (lock.Gone (is_pending n))) (p.tried + 1) n p.loaded p.swept (Lock (lock.Gone (is_pending h.core.word)))
           (ap (λ w. Lock (lock.Gone (is_pending w))) (found s h))
           0 h.pins h.core.pins (set s.words 1 0) h.five h.pinned
           (core_known_step (lists (base key)) h.core (Release p.actor) tt h.sound a_phase)

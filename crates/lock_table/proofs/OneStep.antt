@@ -23,7 +23,7 @@ use Rattle.lock_table.specs.declared.view.Stage.TheVariants as stage
 use Rattle.lock_table.specs.declared.view.View.{View}
 use Rattle.lock_table.specs.Pins.{pins_of}
 use Rattle.lock_table.specs.Rule.{Fits, HasTurn, IsOut, IsSeated, Kept, Sits}
-use Rattle.lock_table.specs.Views.{EachPart, ForOne, IsOwn, find, map_one, parts_in, phase_of, with_one}
+use Rattle.lock_table.specs.Views.{EachPart, ForOne, IsOwn, find, is_known, map_one, parts_in, phase_of, with_one}
 
 -- the seat of one actor
 pub for_one : (P : Part → Type 0) (w : Occupant) → ForOne P w → (p : Part) × (w ≡ who.One p) × P p
@@ -31,20 +31,27 @@ for_one P (who.Root ps) h = absurd h
 for_one P (who.One p) h = (p, refl, h)
 for_one P who.Nobody h = absurd h
 
+-- an actor that there is is none that there is not
+pub apart_known : (a b : Actor) → is_known a ≡ true → is_known b ≡ false → same_actor a b ≡ false
+apart_known a b known isnt = false_from_ne_true (same_actor a b) (λ same. absurd (no (sym known ∙ ap is_known (actor_true a b same) ∙ isnt)))
+  where
+    no : true ≡ false → ⊥
+    no e = cc
+
 pub set_at : {A : Type 0} (l : List A) (i : ℕ) (a b : A) → get_elem? l i ≡ m.some a → get_elem? (set l i b) i ≡ m.some b
 set_at [] i a b e = absurd (some-ne-none a (sym e))
 set_at (x ∷ xs) zero a b e = refl
 set_at (x ∷ xs) (suc i) a b e = set_at xs i a b e
 
 -- the part with another phase and other counts
-abbrev pub with_phase : Part → SeatPhase → ℕ → ℕ → ℕ → Part
-with_phase p k t f w = record { actor = p.actor; phase = k; mine = p.mine; tried = t; found = f; swept = w }
+abbrev pub with_phase : Part → SeatPhase → ℕ → ℕ → List ℕ → ℕ → Part
+with_phase p k t f l w = record { actor = p.actor; phase = k; mine = p.mine; tried = t; found = f; loaded = l; swept = w }
 
 abbrev pub seat_of_one : View → Part → View
-seat_of_one v p = record { who = who.One p; seen = v.seen; told = v.told; stage = v.stage }
+seat_of_one v p = record { who = who.One p; seen = v.seen; told = v.told; stage = v.stage; turns = v.turns; misses = v.misses }
 
 pub of_one : (f : Part → Part) (v : View) (p : Part) → v.who ≡ who.One p → with_one f v ≡ seat_of_one v (f p)
-of_one f v p e = ap (λ o. record { who = map_one f o; seen = v.seen; told = v.told; stage = v.stage }) e
+of_one f v p e = ap (λ o. record { who = map_one f o; seen = v.seen; told = v.told; stage = v.stage; turns = v.turns; misses = v.misses }) e
 
 module _ (core : Core) (seat_of : Actor → ℕ) (a : Actor) (q : Phase) (word : ℕ) (pins : Event → Bool) where
   abbrev pub changed : Core
@@ -58,14 +65,14 @@ module _ (core : Core) (seat_of : Actor → ℕ) (a : Actor) (q : Phase) (word :
       ((h.0.0, h.0.1, (h.0.2.0 ∙ sym (put_other a p.actor q core.phases other), h.0.2.1)), elsewhere j apart ps h.1)
 
   -- and the actor's own part has its new phase
-  own : (j : ℕ) (p : Part) (k : SeatPhase) (t f w : ℕ) → p.actor ≡ a → phase_of k ≡ q → Sits core seat_of j p → Sits changed seat_of j (with_phase p k t f w)
-  own j p k t f w same is h = (h.0, h.1, (is ∙ sym (put_self a q core.phases) ∙ ap (put a q core.phases) (sym same), h.2.1))
+  own : (j : ℕ) (p : Part) (k : SeatPhase) (t f : ℕ) (l : List ℕ) (w : ℕ) → p.actor ≡ a → phase_of k ≡ q → Sits core seat_of j p → Sits changed seat_of j (with_phase p k t f l w)
+  own j p k t f l w same is h = (h.0, h.1, (is ∙ sym (put_self a q core.phases) ∙ ap (put a q core.phases) (sym same), h.2.1))
 
 module _ {B X : Type 0} (lists : X → List (List Event)) (base : B → X) (entries : B → List Entry) (key : B) (s : State (Option B) View) (h : Kept lists base entries key s)
     (id : ℕ) (v : View) (p : Part) (at : get_elem? s.views id ≡ m.some v) (one : v.who ≡ who.One p)
-    (k : SeatPhase) (t f w : ℕ) (q : Phase) (is : phase_of k ≡ q) where
+    (k : SeatPhase) (t f : ℕ) (l : List ℕ) (w : ℕ) (q : Phase) (is : phase_of k ≡ q) where
   abbrev after : View
-  after = seat_of_one v (with_phase p k t f w)
+  after = seat_of_one v (with_phase p k t f l w)
 
   mine : EachPart (Sits h.core h.seat_of id) (p ∷ [])
   mine = subst (λ o. EachPart (Sits h.core h.seat_of id) (parts_in o)) one (h.fits id v at).sits
@@ -88,10 +95,10 @@ module _ {B X : Type 0} (lists : X → List (List Event)) (base : B → X) (entr
       }
       by_seat o (inr other) = record { out = o.out; view = o.view; there = set_else s.views id h.holder after other ∙ o.there; inside = o.inside }
 
-  found_one : (a : Actor) → IsSome (find a (p ∷ [])) → IsSome (find a (with_phase p k t f w ∷ []))
+  found_one : (a : Actor) → IsSome (find a (p ∷ [])) → IsSome (find a (with_phase p k t f l w ∷ []))
   found_one a = by_test (same_actor a p.actor)
     where
-      by_test : (b : Bool) → IsSome (cond b (Some p) None) → IsSome (cond b (Some (with_phase p k t f w)) None)
+      by_test : (b : Bool) → IsSome (cond b (Some p) None) → IsSome (cond b (Some (with_phase p k t f l w)) None)
       by_test true some = refl
       by_test false some = cc
 
@@ -132,7 +139,7 @@ module _ {B X : Type 0} (lists : X → List (List Event)) (base : B → X) (entr
             fit = record {
               seen = old.seen;
               told = old.told;
-              sits = (own h.core h.seat_of p.actor q word held id p k t f w refl is mine.0, tt);
+              sits = (own h.core h.seat_of p.actor q word held id p k t f l w refl is mine.0, tt);
               root = tt;
               holds = turn;
               free = λ away. ap is_holding is ∙ free away;
@@ -161,6 +168,7 @@ module _ {B X : Type 0} (lists : X → List (List Event)) (base : B → X) (entr
       home = h.home;
       out = still_out;
       sound = sound;
+      absent = λ a isnt. put_other p.actor a q h.core.phases (apart_known p.actor a mine.0.0 isnt) ∙ h.absent a isnt;
       seated = λ a is. still_seated a (h.seated a is);
       fits = fits free;
     }

@@ -70,6 +70,7 @@ module _ {B X : Type 0} (lists : X → List (List Event)) (base : B → X) (entr
     home = λ home. absurd (omega (arith, home));
     out = λ _. record { out = refl; view = first_view; there = refl; inside = λ e. cc };
     sound = core_first (lists (base key));
+    absent = λ a isnt. refl;
     seated = λ a known. record { view = first_view; there = refl; part = ap is_some (all_fresh a known) };
     fits = fits;
   }

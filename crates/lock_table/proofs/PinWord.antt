@@ -81,7 +81,7 @@ module _ {B X : Type 0} (lists : X → List (List Event)) (base : B → X) (entr
           ∙ ap (λ t. set (h.turn ∷ h.core.word ∷ h.pins) i (bit_or t mask)) (past_two h.turn h.core.word h.pins i w place)
           ∙ set_past_two h.turn h.core.word h.pins i w (bit_or (get_or h.pins w 0) mask) place in
           subst (λ u. Rule (record { words = set s.words i (bit_or n mask); homes = s.homes; views = set s.views id u })) (sym (of_one (pulsing e clear) x.0 p one))
-          (keeps_one lists base entries key s h id x.0 p at one (kept.Pulsed (pulses_of p.phase ++ record { event = e; clear = clear } ∷ [])) p.tried p.found p.swept q
+          (keeps_one lists base entries key s h id x.0 p at one (kept.Pulsed (pulses_of p.phase ++ record { event = e; clear = clear } ∷ [])) p.tried p.found p.loaded p.swept q
           (λ j. Pulsed (same_pulses j ++ record { event = e; clear = not (same_pin j) } ∷ []))
           h.core.word pins (λ y. h.core.pins y || same_event y e) (set s.words i (bit_or n mask))
           (length-set h.pins w (bit_or (get_or h.pins w 0) mask) ∙ h.five)

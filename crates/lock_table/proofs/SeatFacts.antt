@@ -36,10 +36,10 @@ took_me h b v me me' at is = is ∙ ap (λ x. (took h x.0, (0, Some b) ∷ x.1))
 pub swapped_me : {B : Type 0} (v : View) (old new : Option B) (me me' : Mine B) → me ≡ (v, (0, old) ∷ []) → me' ≡ (me.0, (0, new) ∷ rest me.1) → me' ≡ (v, (0, new) ∷ [])
 swapped_me v old new me me' at is = is ∙ ap (λ x. (x.0, (0, new) ∷ rest x.1)) at
 
-pub lifted_me : {B : Type 0} (v : View) (me me' : Mine B) → me ≡ (v, []) → me' ≡ (staged stage.Holding me.0, (0, None) ∷ me.1) → me' ≡ (staged stage.Holding v, (0, None) ∷ [])
-lifted_me v me me' at is = is ∙ ap (λ x. (staged stage.Holding x.0, (0, None) ∷ x.1)) at
+pub lifted_me : {B : Type 0} (v : View) (me me' : Mine B) → me ≡ (v, []) → me' ≡ (staged stage.Carrying me.0, (0, None) ∷ me.1) → me' ≡ (staged stage.Carrying v, (0, None) ∷ [])
+lifted_me v me me' at is = is ∙ ap (λ x. (staged stage.Carrying x.0, (0, None) ∷ x.1)) at
 
-pub gave_me : {B : Type 0} (entries : B → List Entry) (b : B) (v : View) (me me' : Mine B) → me ≡ (staged stage.Holding v, (0, Some b) ∷ []) → ((c : B) → me.1 ≡ (0, Some c) ∷ [] → me' ≡ (gave (entries c) me.0, [])) → me' ≡ (gave (entries b) v, [])
+pub gave_me : {B : Type 0} (entries : B → List Entry) (b : B) (v : View) (me me' : Mine B) → me ≡ (staged stage.Carrying v, (0, Some b) ∷ []) → ((c : B) → me.1 ≡ (0, Some c) ∷ [] → me' ≡ (gave (entries c) me.0, [])) → me' ≡ (gave (entries b) v, [])
 gave_me entries b v me me' at is = is b (ap (λ x. x.1) at) ∙ ap (λ x. (gave (entries b) x.0, [])) at
 
 -- it has a slot that it can exchange

@@ -200,6 +200,7 @@ module _ {B X : Type 0} (lists : X → List (List Event)) (base : B → X) (entr
       home = k.home;
       out = is_out;
       sound = k.sound;
+      absent = k.absent;
       seated = is_seated;
       fits = fits_at;
     }

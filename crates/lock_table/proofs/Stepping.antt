@@ -18,7 +18,7 @@ use Rattle.lock_table.specs.declared.view.Part.{Part}
 use Rattle.lock_table.specs.declared.view.Stage.TheVariants as stage
 use Rattle.lock_table.specs.declared.view.View.{View}
 use Rattle.lock_table.specs.Pins.{pins_of}
-use Rattle.lock_table.specs.Rule.{Fits, HasTurn, IsHome, IsOut, IsSeated, IsSomebody, Kept, RootIs, Sits}
+use Rattle.lock_table.specs.Rule.{AbsentAreFirst, Fits, HasTurn, IsHome, IsOut, IsSeated, IsSomebody, Kept, RootIs, Sits}
 use Rattle.lock_table.specs.Views.{EachPart, find, map_one, parts_in}
 use Rattle.lock_table.proofs.OneStep.{set_at}
 
@@ -99,11 +99,12 @@ module _ {B X : Type 0} (lists : X → List (List Event)) (base : B → X) (entr
         → (turn ≡ 0 → IsHome base entries key core.history homes)
         → (turn ≢ 0 → IsOut turn holder (set s.views id w))
         → CoreSound (lists (base key)) core
+        → AbsentAreFirst core.phases
         → ((a : Actor) → IsSome (find a (parts_in v.who)) → IsSome (find a (parts_in w.who)))
         → ((j : ℕ) (u : View) → j ≢ id → get_elem? s.views j ≡ m.some u → Fits turn holder core k.seat_of homes j u)
         → Fits turn holder core k.seat_of homes id w
         → Rule (record { words = words; homes = homes; views = set s.views id w })
-    built turn holder core homes words are pinned home out sound found others mine = record {
+    built turn holder core homes words are pinned home out sound absent found others mine = record {
       turn = turn;
       holder = holder;
       pins = k.pins;
@@ -115,6 +116,7 @@ module _ {B X : Type 0} (lists : X → List (List Event)) (base : B → X) (entr
       home = home;
       out = out;
       sound = sound;
+      absent = absent;
       seated = λ a is. still_seated found (k.seat_of a) a (k.seated a is);
       fits = λ j u there. by_seat j u (at_set s.views id j w u there);
     }

@@ -22,17 +22,17 @@ use Rattle.lock_table.specs.declared.view.Stage.{Stage}
 use Rattle.lock_table.specs.declared.view.Stage.TheVariants as stage
 use Rattle.lock_table.specs.declared.view.View.{View}
 use Rattle.lock_table.specs.Plays.{Given, Lifted, Mine, PutIn, Taken}
-use Rattle.lock_table.specs.Rule.{HasTurn, IsHome, IsSomebody, Kept, Sits, slot_at}
+use Rattle.lock_table.specs.Rule.{AbsentAreFirst, HasTurn, IsHome, IsSomebody, Kept, Sits, slot_at}
 use Rattle.lock_table.specs.Views.{EachPart, HoldsInTurn, MadeIn, MayAdd, StartsWith, after_deeds, deeds_of, gave, let_go, map_one, missed, new_in, noted, parts_in, phase_of, staged, took, wrote}
 use Rattle.lock_table.proofs.Histories.{deeds_back, lets_go, means_moved, new_behind, of_more, of_others, starts_further, starts_itself}
-use Rattle.lock_table.proofs.OneStep.{own_of, set_at}
+use Rattle.lock_table.proofs.OneStep.{apart_known, own_of, set_at}
 use Rattle.lock_table.proofs.PartLists.{each_map}
 use Rattle.lock_table.proofs.Stepping.{Homes, built, others_same, still_found, still_out, still_root, still_sits, still_somebody}
 
 -- ---- stages
 
-pub holding_away : stage.Holding ≢ stage.Away
-holding_away e = cc
+pub carrying_away : stage.Carrying ≢ stage.Away
+carrying_away e = cc
 
 pub inside_away : stage.Inside ≢ stage.Away
 inside_away e = cc
@@ -75,8 +75,8 @@ module _ {B X : Type 0} (lists : X → List (List Event)) (base : B → X) (entr
         let f = k.fits id v at in
         built lists base entries key s k id v w at 1 id k.core (homes_after s.homes [] (takes 0 (Some h.board))) (set s.words 0 1)
         (first_set s k 1) k.pinned (λ zero. absurd (omega arith))
-        (λ _. record { out = refl; view = w; there = set_at s.views id v w at; inside = holding_away })
-        k.sound (still_found (noted 0) (λ p. refl) v.who)
+        (λ _. record { out = refl; view = w; there = set_at s.views id v w at; inside = carrying_away })
+        k.sound k.absent (still_found (noted 0) (λ p. refl) v.who)
         (λ j u other there. others_same lists base entries key s k id v w at 1 id _ j u (λ has. absurd (let out = has.out in omega (arith, out, home))) there)
         (record {
           seen = subst (λ l. StartsWith k.core.history l) (sym h.has) (starts_itself k.core.history);
@@ -84,7 +84,7 @@ module _ {B X : Type 0} (lists : X → List (List Event)) (base : B → X) (entr
           sits = noted_sits 0;
           root = still_root (noted 0) (λ p. refl) id v.who f.root;
           holds = λ inside. record { out = refl; holds = refl; whole = h.has; slot = ap (λ l. set l 0 m.none) h.slot; somebody = still_somebody (noted 0) (λ p. refl) v.who somebody };
-          free = still_free stage.Holding (noted 0) (λ p. refl) v.stage (λ e. absurd (holding_away e)) v.who f.free;
+          free = still_free stage.Carrying (noted 0) (λ p. refl) v.stage (λ e. absurd (carrying_away e)) v.who f.free;
         })
 
     missing : k.turn ≢ 0 → Rule (stepped s 0 (get_or s.words 0 0) id [] (missed (get_or s.words 0 0) v) keeps)
@@ -94,7 +94,7 @@ module _ {B X : Type 0} (lists : X → List (List Event)) (base : B → X) (entr
         let f = k.fits id v at in
         built lists base entries key s k id v w at k.turn k.holder k.core s.homes (set s.words 0 n)
         (set-get_or s.words 0 0 ∙ k.words) k.pinned k.home (still_out lists base entries key s k id v w at (λ i. i))
-        k.sound (still_found (noted n) (λ p. refl) v.who)
+        k.sound k.absent (still_found (noted n) (λ p. refl) v.who)
         (λ j u other there. others_same lists base entries key s k id v w at k.turn k.holder s.homes j u (λ has. has) there)
         (record {
           seen = f.seen;
@@ -141,7 +141,7 @@ module _ {B X : Type 0} (lists : X → List (List Event)) (base : B → X) (entr
       built lists base entries key s k id v (staged g v) at k.turn k.holder k.core homes (set s.words 0 (get_or s.words 0 0))
       (set-get_or s.words 0 0 ∙ k.words) k.pinned (λ zero. absurd (omega (arith, zero, one)))
       (still_out lists base entries key s k id v (staged g v) at (λ _. out))
-      k.sound (λ a found. found)
+      k.sound k.absent (λ a found. found)
       (λ j u other there. others_same lists base entries key s k id v (staged g v) at k.turn k.holder homes j u (λ its. absurd (other (its.holds ∙ sym has.holds))) there)
       (record {
         seen = f.seen;
@@ -157,12 +157,12 @@ module _ {B X : Type 0} (lists : X → List (List Event)) (base : B → X) (entr
       held (who.One p) free = λ away. absurd (out away)
       held who.Nobody free = tt
 
-  pub puts_in : (slots id : ℕ) (v : View) (me : Mine B) → me ≡ (v, (0, None) ∷ []) → v.stage ≡ stage.Holding → Allows Rule slots id me 0 (λ n. n) (λ n. PutIn no_step me n)
+  pub puts_in : (slots id : ℕ) (v : View) (me : Mine B) → me ≡ (v, (0, None) ∷ []) → v.stage ≡ stage.Carrying → Allows Rule slots id me 0 (λ n. n) (λ n. PutIn no_step me n)
   puts_in slots id v me at_me inside = subst (λ x. Allows Rule slots id x 0 (λ n. n) (λ n. PutIn no_step x n)) (sym at_me) all
     where
       all : Allows Rule slots id (v, (0, None) ∷ []) 0 (λ n. n) (λ n. PutIn no_step (v, (0, None) ∷ []) n)
       all s k _ at _ =
-          let has = (k.fits id v at).holds (λ away. holding_away (sym inside ∙ away)) in
+          let has = (k.fits id v at).holds (λ away. carrying_away (sym inside ∙ away)) in
           (staged stage.Inside v, gives, tt, moving s k id v at stage.Inside inside_away has (set s.homes 0 (m.some None)) (ap (λ l. set l 0 (m.some None)) has.slot), refl)
 
   pub lifts : (slots id : ℕ) (v : View) (me : Mine B) → me ≡ (v, []) → v.stage ≡ stage.Inside → Allows Rule slots id me 0 (λ n. n) (λ n. Lifted no_step me n)
@@ -172,25 +172,25 @@ module _ {B X : Type 0} (lists : X → List (List Event)) (base : B → X) (entr
       all s k _ at _ =
           let has = (k.fits id v at).holds (λ away. inside_away (sym inside ∙ away)) in
           let slot = has.slot ∙ ap (λ g. slot_at g ∷ []) inside in
-          (staged stage.Holding v, takes 0 None, ap (λ l. get_elem? l 0) slot, moving s k id v at stage.Holding holding_away has (set s.homes 0 m.none) (ap (λ l. set l 0 m.none) slot), refl)
+          (staged stage.Carrying v, takes 0 None, ap (λ l. get_elem? l 0) slot, moving s k id v at stage.Carrying carrying_away has (set s.homes 0 m.none) (ap (λ l. set l 0 m.none) slot), refl)
 
   -- ---- the turn is given back
 
   module _ (s : St) (k : Rule s) (id : ℕ) (v : View) (at : get_elem? s.views id ≡ m.some v) (has : HasTurn k.turn k.holder k.core.history s.homes id v)
       (b : B) (same_base : base b ≡ base key) (homes : Homes B) (slot : homes ≡ m.some (Some b) ∷ []) where
     -- with nothing new by the root, with its entries by an actor
-    giving : (core : Core) → core.word ≡ k.core.word → ((n : Event) → core.pins n ≡ k.core.pins n) → core.history ≡ entries b → CoreSound (lists (base key)) core
+    giving : (core : Core) → core.word ≡ k.core.word → ((n : Event) → core.pins n ≡ k.core.pins n) → core.history ≡ entries b → CoreSound (lists (base key)) core → AbsentAreFirst core.phases
         → ((j : ℕ) (u : View) → j ≢ id → get_elem? s.views j ≡ m.some u → EachPart (Sits k.core k.seat_of j) (parts_in u.who) → EachPart (Sits core k.seat_of j) (parts_in u.who))
         → ((first : List Entry) → StartsWith k.core.history first → StartsWith core.history first)
         → EachPart (Sits core k.seat_of id) (parts_in (gave (entries b) v).who) → HoldsInTurn stage.Away (gave (entries b) v).who
         → Rule (record { words = set s.words 0 0; homes = homes; views = set s.views id (gave (entries b) v) })
-    giving core word pins history sound others further mine free =
+    giving core word pins history sound absent others further mine free =
         let f = k.fits id v at in
         let new = new_in (entries b) v in
         built lists base entries key s k id v (gave (entries b) v) at 0 k.holder core homes (set s.words 0 0)
         (first_set s k 0 ∙ ap (λ n. 0 ∷ n ∷ k.pins) (sym word)) (λ n. pins n ∙ k.pinned n)
         (λ _. record { board = b; slot = slot; same_base = same_base; has = sym history }) (λ out. absurd (out refl))
-        sound (still_found (wrote new) (λ p. refl) v.who)
+        sound absent (still_found (wrote new) (λ p. refl) v.who)
         (λ j u other there. let o = k.fits j u there in record {
           seen = further u.seen o.seen;
           told = further u.told o.told;
@@ -213,7 +213,7 @@ module _ {B X : Type 0} (lists : X → List (List Event)) (base : B → X) (entr
     giving_root ps is same =
         let f = k.fits id v at in
         let still : map_one (wrote (new_in (entries b) v)) v.who ≡ v.who = ap (map_one (wrote (new_in (entries b) v))) is ∙ sym is in
-        giving k.core refl (λ n. refl) (sym has.whole ∙ sym same) k.sound (λ j u _ _ sits. sits) (λ first starts. starts)
+        giving k.core refl (λ n. refl) (sym has.whole ∙ sym same) k.sound k.absent (λ j u _ _ sits. sits) (λ first starts. starts)
         (subst (λ w. EachPart (Sits k.core k.seat_of id) (parts_in w)) (sym still) f.sits)
         (subst (HoldsInTurn stage.Away) (sym (still ∙ is)) (subst (HoldsInTurn v.stage) is f.free))
 
@@ -254,6 +254,7 @@ module _ {B X : Type 0} (lists : X → List (List Event)) (base : B → X) (entr
           let now : map_one (wrote (new_in (entries b) v)) v.who ≡ who.One (wrote (new_in (entries b) v) p) = ap (map_one (wrote (new_in (entries b) v))) is in
           giving after refl (λ n. refl) (ap (λ l. l ++ map (entry p.actor) deeds) (sym has.whole) ∙ sym adds)
           (core_turn (lists (base key)) k.core p.actor deeds k.sound (subst (λ q. IsTurn q (past_in k.core) p.actor deeds) sits_here.2.0 (subst (λ l. IsTurn (phase_of p.phase) (reverse l) p.actor deeds) has.whole turn)))
+          (λ a isnt. put_other p.actor a _ k.core.phases (apart_known p.actor a sits_here.0 isnt) ∙ k.absent a isnt)
           (λ j u other there sits. elsewhere j other (parts_in u.who) sits) (λ first starts. starts_further k.core.history first (map (entry p.actor) deeds) starts)
           (subst (λ w. EachPart (Sits after k.seat_of id) (parts_in w)) (sym now) (here, tt))
           (subst (HoldsInTurn stage.Away) (sym now) (λ _. lets_go _))
@@ -263,7 +264,7 @@ module _ {B X : Type 0} (lists : X → List (List Event)) (base : B → X) (entr
   board_in d [] = d
   board_in d (x ∷ xs) = unwrap_or x.1 d
 
-  pub gives_turn : (slots id : ℕ) (v : View) (b : B) (me : Mine B) → me ≡ (v, (0, Some b) ∷ []) → v.stage ≡ stage.Holding → base b ≡ base key → MayAdd v.who v.seen (entries b)
+  pub gives_turn : (slots id : ℕ) (v : View) (b : B) (me : Mine B) → me ≡ (v, (0, Some b) ∷ []) → v.stage ≡ stage.Carrying → base b ≡ base key → MayAdd v.who v.seen (entries b)
       → Allows Rule slots id me 0 (λ _. 0) (λ _. Given entries no_step me 0)
   unfolding board_in
   gives_turn slots id v b me at_me inside same_base may = subst (λ x. Allows Rule slots id x 0 (λ _. 0) (λ _. Given entries no_step x 0)) (sym at_me) all
@@ -278,7 +279,7 @@ module _ {B X : Type 0} (lists : X → List (List Event)) (base : B → X) (entr
           (w, gives, tt, after, ((λ c e. ap (λ x. (gave (entries x) v, [])) (board_there c e)), own_of lists base entries key _ after id w (set_at s.views id v w at)))
         where
           has : HasTurn k.turn k.holder k.core.history s.homes id v
-          has = (k.fits id v at).holds (λ away. holding_away (sym inside ∙ away))
+          has = (k.fits id v at).holds (λ away. carrying_away (sym inside ∙ away))
 
           slot : set s.homes 0 (m.some (Some b)) ≡ m.some (Some b) ∷ []
           slot = ap (λ l. set l 0 (m.some (Some b))) has.slot

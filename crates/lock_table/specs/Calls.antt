@@ -19,7 +19,7 @@ use Rattle.lock_table.specs.declared.seat.Entered.{Entered}
 use Rattle.lock_table.specs.declared.seat.Entered.TheVariants as entered
 use Rattle.lock_table.specs.declared.words.Words.{Words}
 use Rattle.lock_table.specs.Bits.{IsEvent, is_set}
-use Rattle.lock_table.specs.Rule.{IsSomebody, StandsIn}
+use Rattle.lock_table.specs.Rule.{AbsentAreFirst, IsSomebody, StandsIn}
 use Rattle.lock_table.specs.Views.{EachPart, IsOwn, MadeIn, StartsWith, first_view, missed, parts_in, root_parts, staged, took}
 
 -- ---- a seat
@@ -74,8 +74,8 @@ abbrev pub Enters : {B : Type 0} → (B → List Entry) → (B → Type 0) → V
 Enters entries is v (entered.Turn t) w = is t.board × StartsWith (entries t.board) v.seen × (w ≡ staged stage.Inside (took (entries t.board) v)) × EachPart (MadeIn (entries t.board)) (parts_in v.who)
 Enters entries is v entered.Out w = w ≡ missed 1 v
 
--- Board and words of a table that was closed stand for a sound core, with the parts that the root has. The board has the
--- table's base, and its history begins with what the root had seen.
+-- Board and words of a table that was closed stand for a sound core, with the parts that the root has, and with every actor
+-- that there is not at its start. The board has the table's base, and its history begins with what the root had seen.
 pub record Leaves {B X : Type 0} (lists : X → List (List Event)) (base : B → X) (entries : B → List Entry) (key : B) (v : View) (b : B) (words : Words) : Type 0 where
   pub same_base : base b ≡ base key
   pub begins : StartsWith (entries b) v.seen
@@ -84,4 +84,5 @@ pub record Leaves {B X : Type 0} (lists : X → List (List Event)) (base : B →
   pub word : core.word ≡ words.facs
   pub pins : (n : Event) → IsEvent n → core.pins n ≡ is_set words.pins n
   pub stands : EachPart (StandsIn core) (root_parts v.who)
+  pub absent : AbsentAreFirst core.phases
   pub sound : CoreSound (lists (base key)) core

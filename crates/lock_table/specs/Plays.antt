@@ -24,7 +24,7 @@ module _ {B : Type 0} where
 
   -- the empty slot is out with the seat again
   abbrev pub Lifted : Step (Option B) → Mine B → ℕ → Mine B → Type 0
-  Lifted st x n y = y ≡ (staged stage.Holding x.0, (0, None) ∷ x.1)
+  Lifted st x n y = y ≡ (staged stage.Carrying x.0, (0, None) ∷ x.1)
 
   -- the slot is back with this board, and the turn is home
   abbrev pub Given : (B → List Entry) → Step (Option B) → Mine B → ℕ → Mine B → Type 0

@@ -2,7 +2,7 @@
 --
 -- Word 0 is 0 where the turn is home and 1 where it is out. Word 1 is the Global Lock's, and five pin words follow. The slot has
 -- the board while the turn is home.
-use Rattle.std.specs.Prelude.{ℕ, ◌≡◌, ◌≢◌, true, List, [], ◌∷◌, length, Option, Some, None, IsSome}
+use Rattle.std.specs.Prelude.{ℕ, ◌≡◌, ◌≢◌, true, false, List, [], ◌∷◌, length, Option, Some, None, IsSome}
 use mathlib.Core.Option as m
 use lib.ListN.{get_elem?}
 use Rattle.atomic_table.specs.Table.{State}
@@ -12,6 +12,7 @@ use Rattle.acpi_regs.specs.declared.event.Event.{Event}
 use Rattle.acpi_regs.specs.Core.{Core}
 use Rattle.acpi_regs.specs.CoreSound.{CoreSound}
 use Rattle.acpi_regs.specs.History.{entries_of}
+use Rattle.acpi_regs.specs.Phases.{Phase, first_phase}
 use Rattle.lock_table.specs.declared.view.Occupant.{Occupant}
 use Rattle.lock_table.specs.declared.view.Occupant.TheVariants as who
 use Rattle.lock_table.specs.declared.view.Part.{Part}
@@ -24,6 +25,10 @@ use Rattle.lock_table.specs.Views.{EachPart, HoldsInTurn, StartsWith, find, is_k
 -- the part has its actor's phase, and the entries that the actor made
 abbrev pub StandsIn : Core → Part → Type 0
 StandsIn core p = (phase_of p.phase ≡ core.phases p.actor) × (p.mine ≡ entries_of core.history p.actor)
+
+-- an actor that there is not is at its start
+abbrev pub AbsentAreFirst : (Actor → Phase) → Type 0
+AbsentAreFirst phases = (a : Actor) → is_known a ≡ false → phases a ≡ first_phase a
 
 -- ---- seats
 
@@ -43,7 +48,7 @@ IsSomebody _ = Unit {0}
 module _ {B : Type 0} where
   -- the slot while the turn is out
   abbrev pub slot_at : Stage → m.Option (Option B)
-  slot_at stage.Holding = m.none
+  slot_at stage.Carrying = m.none
   slot_at _ = m.some None
 
   -- seat j is the holder of the turn, and has seen the whole history
@@ -98,5 +103,6 @@ pub record Kept {B X : Type 0} (lists : X → List (List Event)) (base : B → X
   pub home : turn ≡ 0 → IsHome base entries key core.history s.homes
   pub out : turn ≢ 0 → IsOut turn holder s.views
   pub sound : CoreSound (lists (base key)) core
+  pub absent : AbsentAreFirst core.phases
   pub seated : (a : Actor) → is_known a ≡ true → IsSeated s.views (seat_of a) a
   pub fits : (j : ℕ) (v : View) → get_elem? s.views j ≡ m.some v → Fits turn holder core seat_of s.homes j v

@@ -6,8 +6,8 @@ use std::collections::LinkedList;
 pub enum Stage {
     /// The turn is not with this seat.
     Away,
-    /// The slot is out with this seat, between the turn word's step and the board's move.
-    Holding,
+    /// The seat has the turn, and carries the slot, between the turn word's step and the board's move.
+    Carrying,
     /// The caller has the board, and the slot is empty.
     Inside,
 }
@@ -36,6 +36,8 @@ pub struct Part {
     pub tried: u64,
     /// What the last of these steps found.
     pub found: u64,
+    /// What its loads of the lock's word found, the oldest first.
+    pub loaded: LinkedList<u64>,
     /// How many pin words it collected.
     pub swept: u64,
 }
@@ -56,8 +58,13 @@ pub struct View {
     pub who: Occupant,
     /// The entries that were seen, with which the history begins.
     pub seen: LinkedList<Entry>,
-    /// What a seat that was joined had seen, until the root's next look.
+    /// What a seat that was joined last had seen, and the history begins with, until the root's next look. It is empty but in
+    /// the root, between the two steps of a join.
     pub told: LinkedList<Entry>,
     /// Whether the seat has the turn.
     pub stage: Stage,
+    /// How many turns it took.
+    pub turns: u64,
+    /// How often it found the turn out.
+    pub misses: u64,
 }

@@ -24,7 +24,7 @@ use Rattle.world.proofs.Giving.{script-gives, script-stays}
 pub record Steps (m : MachineData) (x : AnyActor) (w : Serial) (o : StepOutcome) (w' : Serial) (q : Phase) : Type 0 where
   pub given : (phases : Actor → Phase) → phases (who x) ≡ stands x → gives m (core_of w phases) (who x) ≡ after_step o (core_of w' (put (who x) q phases))
   pub still : is_stepped o ≡ false → ((phases : Actor → Phase) → core_of w' phases ≡ core_of w phases) × (q ≡ stands x)
-  pub as_kind : (y : AnyActor) → stands y ≡ q → StepsAs m x w o w' y
+  pub as_kind : (y : AnyActor) → stands y ≡ q → StepsAs SerialMakes m x w o w' y
 
 same_as : (m : MachineData) (x y : AnyActor) (w : Serial) (o : StepOutcome) (w' : Serial) (q : Phase) → x ≡ y → Steps m y w o w' q → Steps m x w o w' q
 same_as m x y w o w' q is steps = subst (λ z. Steps m z w o w' q) (sym is) steps

@@ -13,7 +13,7 @@ use Rattle.acpi_regs.specs.CoreEvents.{entry}
 use Rattle.acpi_regs.specs.CoreSound.{lock_phase}
 use Rattle.acpi_regs.specs.History.{entries_of}
 use Rattle.acpi_regs.specs.Phases.{Free, Lock, Phase, Pulsed, is_idle}
-use Rattle.fw_actors.specs.Hardware.{next_pulse}
+use Rattle.fw_actors.specs.Hardware.{PulsesNext, next_pulse}
 use Rattle.lock_table.specs.declared.view.Occupant.{Occupant}
 use Rattle.lock_table.specs.declared.view.Occupant.TheVariants as who
 use Rattle.lock_table.specs.declared.view.Part.{Part}
@@ -24,7 +24,7 @@ use Rattle.lock_table.specs.declared.view.View.{View}
 use Rattle.lock_table.specs.declared.words.Attempt.{Attempt}
 use Rattle.lock_table.specs.declared.words.Attempt.TheVariants as attempt
 use Rattle.lock_table.specs.Calls.{Pass, SameSeat}
-use Rattle.lock_table.specs.Views.{ForOne, MadeIn, after_deeds, deeds_of, let_go, map_one, phase_of, pulses_of}
+use Rattle.lock_table.specs.Views.{ForOne, MadeIn, after_deeds, deeds_of, let_go, map_one, phase_of, pulses, pulses_of}
 use Rattle.lock_table.proofs.OneStep.{for_one}
 use Rattle.machine_desc.specs.Machine.{MachineData}
 use Rattle.machine_history.specs.Legal.{Legal}
@@ -39,7 +39,7 @@ use Rattle.world.specs.Calls.{Attempted, Call, Missed, Pulsed_at, Released, Turn
 use Rattle.world.specs.Duties.{added, did}
 use Rattle.world.specs.Shared.{SeatMakes, TurnMakes, turned}
 use Rattle.world.specs.Stepping.{ScriptAnswers, TurnAnswers, attempt_outcome, attempt_phase, did_outcome, has_ended, may_end, moved_by, turn_outcome}
-use Rattle.sci_threads.specs.Shared.{IsAtEnd, IsOf, IsReady, Rises, ends_as, is_ended, steps_as, steps_in}
+use Rattle.sci_threads.specs.Shared.{IsAtEnd, IsOf, IsReady, Rises, SeenMakes, ends_as, is_ended, steps_as, steps_in}
 use Rattle.sci_threads.proofs.OwnEntries.{next_own}
 
 pub record Stepped (m : MachineData) (o : StepOutcome) (a : Actor) (f : Phase) (v w : View) : Type 0 where
@@ -200,3 +200,10 @@ free_stepped m a v w o collects adds call isnt away part makes says = let one = 
 
 pub ready_again : (m : MachineData) (id : TableId) (o : StepOutcome) (a : Actor) (f g : Phase) (s t : Pass) → IsReady id a f s → SameSeat s t → Stepped m o a g s.view t.view → IsReady id a g t
 ready_again m id o a f g s t ready same stepped = record { table = same.0 ∙ ready.table; away = stepped.away; part = stepped.part }
+
+-- ---- a device's pulse, as its seat tells it
+
+pub pulses_seen : {W : Type 0} (makes : W → Actor → Call → W → Type 0) (m : MachineData) (a : Actor) (w w' : W) (v u : View) → ((n : Event) (clear : Bool) → makes w a (Pulsed_at n clear) w' → u ≡ pulses n clear v) → (w' ≡ w → u ≡ v) → (n : Option Event) (ps qs : List Pulse) (o : StepOutcome)
+    → PulsesNext makes a w ps n o w' qs → PulsesNext (SeenMakes m) a v ps n o u qs
+pulses_seen makes m a w w' v u made same None ps qs o h = (h.0, same h.1, h.2)
+pulses_seen makes m a w w' v u made same (Some n) ps qs o h = (h.0, made n h.0 h.1, h.2, h.3)

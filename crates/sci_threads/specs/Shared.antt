@@ -10,14 +10,18 @@ use Rattle.lock_table.specs.declared.view.Occupant.{Occupant}
 use Rattle.lock_table.specs.declared.view.Occupant.TheVariants as who
 use Rattle.lock_table.specs.declared.view.Part.{Part}
 use Rattle.lock_table.specs.declared.view.Stage.TheVariants as stage
+use Rattle.lock_table.specs.declared.view.View.{View}
 use Rattle.lock_table.specs.Calls.{Pass, SameSeat}
 use Rattle.lock_table.specs.Views.{ForOne, phase_of, pulses_of}
 use Rattle.machine_desc.specs.Machine.{MachineData}
 use Rattle.machine_history.specs.Scripts.{next_of}
+use Rattle.sci_threads.specs.declared.any.AnyActor.{AnyActor}
 use Rattle.sci_threads.specs.declared.shared.ActorSeat.{ActorSeat}
-use Rattle.sci_threads.specs.Actors.{stands, who as who_of}
+use Rattle.sci_threads.specs.Actors.{StepsAs, stands, who as who_of}
 use Rattle.world.specs.declared.outcome.StepOutcome.{StepOutcome}
 use Rattle.world.specs.declared.outcome.StepOutcome.TheVariants as outcome
+use Rattle.world.specs.Calls.{Call}
+use Rattle.world.specs.Shared.{SeatMakes}
 
 -- the part is this actor's, in this phase
 abbrev pub IsOf : Actor → Phase → Part → Type 0
@@ -28,6 +32,16 @@ pub record IsReady (id : TableId) (a : Actor) (f : Phase) (s : Pass) : Type 0 wh
   pub table : s.table ≡ id
   pub away : s.view.stage ≡ stage.Away
   pub part : ForOne (IsOf a f) s.view.who
+
+-- what a call makes of a seat, whoever the actor is
+abbrev pub SeenMakes : MachineData → View → Actor → Call → View → Type 0
+SeenMakes m v a call w = SeatMakes m v call w
+
+-- One step over a seat, as the actor's own kind has it. It rests on what the seat did in that call: an attempt or a release at
+-- the Global Lock's word, a pulse, a turn that was taken and given back, for int and poll with five collects in it, or a turn
+-- that was found out. A device whose list is through does nothing.
+abbrev pub SeatSteps : MachineData → AnyActor → View → StepOutcome → View → AnyActor → Type 0
+SeatSteps m x v o w y = StepsAs (SeenMakes m) m x v o w y
 
 -- ---- the end of an actor
 

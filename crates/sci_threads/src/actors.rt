@@ -5,7 +5,7 @@ ghost use Rattle.machine_desc.specs.Actors.{actors_of};
 ghost use Rattle.machine_history.specs.Steps.{gives};
 ghost use Rattle.sci_threads.specs.Actors.{StepsAs, phases_of, stands, who};
 ghost use Rattle.world.specs.Duties.{AreLatchable};
-ghost use Rattle.world.specs.Serial.{core_of, pins_of};
+ghost use Rattle.world.specs.Serial.{SerialMakes, core_of, pins_of};
 ghost use Rattle.world.specs.Stepping.{after_step, is_stepped};
 
 use crate::AnyActor;
@@ -58,7 +58,7 @@ impl AnyActor {
             ≡ after_step result (core_of world.new (put (who self.old) (stands self.new) phases)) }
         ensures stays { is_stepped result ≡ false → ((phases : Actor → Phase) → core_of world.new phases ≡ core_of world.old phases)
             × (stands self.new ≡ stands self.old) }
-        ensures answers { StepsAs machine.now self.old world.old result world.new self.new }
+        ensures answers { StepsAs SerialMakes machine.now self.old world.old result world.new self.new }
     {
         match self {
             AnyActor::Int(int) => int.step(machine, world),

@@ -2,7 +2,7 @@
 ghost use Rattle.std.specs.Prelude.{◌≡◌};
 ghost use Rattle.lock_table.specs.Calls.{SameSeat};
 ghost use Rattle.sci_threads.specs.Actors.{stands, who};
-ghost use Rattle.sci_threads.specs.Shared.{IsReady, Rises, is_ended};
+ghost use Rattle.sci_threads.specs.Shared.{IsReady, Rises, SeatSteps, is_ended};
 
 use crate::AnyActor;
 use lock_table::{LockTable, TableSeat};
@@ -30,6 +30,7 @@ impl AnyActor {
         ensures same { SameSeat world.old.seat.now world.new.seat.now }
         ensures ready { IsReady world.old.table.now.table.shared.table_id (who self.new) (stands self.new) world.new.seat.now }
         ensures rises { Rises machine.now (is_ended result) world.old.seat.now.view.who world.new.seat.now.view.who }
+        ensures answers { SeatSteps machine.now self.old world.old.seat.now.view result world.new.seat.now.view self.new }
     {
         match self {
             AnyActor::Int(int) => int.step(machine, world),
@@ -47,7 +48,9 @@ impl ActorSeat {
     /// which has the actor in its phase.
     ///
     /// Behind it the actor is at its end, where that is answered, or the seat tells of one step more: a pulse of a device, and
-    /// of every other actor a turn that was taken or found out, or a try at the Global Lock's word.
+    /// of every other actor a turn that was taken or found out, or a try at the Global Lock's word. The answer and the actor's
+    /// next phase are what that one call of the table told: NotReady comes of a turn in which there was nothing to add, Out of
+    /// a turn that was found out, Moved of an exchange that failed, and Stepped of all others.
     pub fn step(&mut self, table: &LockTable<Board>, machine: &Machine) -> StepOutcome
         requires machine { table.now.table.shared.key.machine ≡ machine.now }
         requires ready { IsReady table.now.table.shared.table_id (who self.old.actor) (stands self.old.actor) self.old.seat }
@@ -55,6 +58,7 @@ impl ActorSeat {
         ensures same { SameSeat self.old.seat self.new.seat }
         ensures ready { IsReady table.now.table.shared.table_id (who self.new.actor) (stands self.new.actor) self.new.seat }
         ensures rises { Rises machine.now (is_ended result) self.old.seat.view.who self.new.seat.view.who }
+        ensures answers { SeatSteps machine.now self.old.actor self.old.seat.view result self.new.seat.view self.new.actor }
     {
         let mut world = TableWorld::new(table, &mut self.seat);
         self.actor.step_shared(machine, &mut world)

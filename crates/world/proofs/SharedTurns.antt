@@ -208,9 +208,9 @@ free_allows : (hand : List ℕ) (lock : Option Deed) → AllowsLock kept.Free lo
 free_allows hand None allows = tt
 free_allows hand (Some d) allows = allows
 
-module _ (m : MachineData) (a : Actor) (lock : Option Deed) (before after : List Entry) (told : List Entry) (g : Stage) (bits : Bits) (answer : Acted) where
+module _ (m : MachineData) (a : Actor) (lock : Option Deed) (before after : List Entry) (told : List Entry) (g : Stage) (turns misses : ℕ) (bits : Bits) (answer : Acted) where
   abbrev of : Occupant → View
-  of o = record { who = o; seen = before; told = told; stage = g }
+  of o = record { who = o; seen = before; told = told; stage = g; turns = turns; misses = misses }
 
   added : (collect : Bool) (o : Occupant) → ForOne (MayAct a collect lock) o → (collect ≡ false → events_of (pinned bits) ≡ []) → IsTurn a lock before after (events_of (pinned bits)) answer → Legal m after
       → MayAdd (gathered collect (words_of bits) (of o)).who before after
@@ -233,7 +233,7 @@ module _ (m : MachineData) (a : Actor) (lock : Option Deed) (before after : List
 
 pub may_add_turn : (m : MachineData) (a : Actor) (lock : Option Deed) (collect : Bool) (v w : View) (after : List Entry) (bits : Bits) (answer : Acted) → w ≡ gathered collect (words_of bits) v → ForOne (MayAct a collect lock) v.who
     → (collect ≡ false → events_of (pinned bits) ≡ []) → IsTurn a lock v.seen after (events_of (pinned bits)) answer → Legal m after → MayAdd w.who w.seen after
-may_add_turn m a lock collect v w after bits answer is may nothing turn legal = subst (λ (x : View). MayAdd x.who x.seen after) (sym is) (by_collect collect (added m a lock v.seen after v.told v.stage bits answer collect v.who may nothing turn legal))
+may_add_turn m a lock collect v w after bits answer is may nothing turn legal = subst (λ (x : View). MayAdd x.who x.seen after) (sym is) (by_collect collect (added m a lock v.seen after v.told v.stage v.turns v.misses bits answer collect v.who may nothing turn legal))
   where
     by_collect : (c : Bool) → MayAdd (gathered c (words_of bits) v).who v.seen after → MayAdd (gathered c (words_of bits) v).who (gathered c (words_of bits) v).seen after
     by_collect true h = h
@@ -250,17 +250,17 @@ free_still (d ∷ ds) = free_still ds
 freed : (ds : List Deed) (hand : List ℕ) (p : SeatPhase) → p ≡ kept.Free → let_go (after_deeds ds (kept.Holding hand)) ≡ let_go (after_deeds ds p)
 freed ds hand p is = ap let_go (hold_still ds hand) ∙ sym (ap let_go (ap (after_deeds ds) is ∙ free_still ds))
 
-ends : (a : Actor) (lock : Option Deed) (collect : Bool) (hand : List ℕ) (before after told : List Entry) (g : Stage) (o : Occupant) → ForOne (MayAct a collect lock) o
-    → gave after (gathered collect hand (record { who = o; seen = before; told = told; stage = g })) ≡ finished collect after (record { who = o; seen = before; told = told; stage = g })
-ends a lock collect hand before after told g (who.Root ps) may = absurd may
-ends a lock collect hand before after told g who.Nobody may = absurd may
-ends a lock false hand before after told g (who.One p) may = refl
-ends a lock true hand before after told g (who.One p) may = ap
-    (λ q. record { who = who.One (record { actor = p.actor; phase = q; mine = p.mine ++ drop (length before) after; tried = p.tried; found = p.found; swept = p.swept + 5 }); seen = after; told = told; stage = stage.Away })
+ends : (a : Actor) (lock : Option Deed) (collect : Bool) (hand : List ℕ) (before after told : List Entry) (g : Stage) (turns misses : ℕ) (o : Occupant) → ForOne (MayAct a collect lock) o
+    → gave after (gathered collect hand (record { who = o; seen = before; told = told; stage = g; turns = turns; misses = misses })) ≡ finished collect after (record { who = o; seen = before; told = told; stage = g; turns = turns; misses = misses })
+ends a lock collect hand before after told g turns misses (who.Root ps) may = absurd may
+ends a lock collect hand before after told g turns misses who.Nobody may = absurd may
+ends a lock false hand before after told g turns misses (who.One p) may = refl
+ends a lock true hand before after told g turns misses (who.One p) may = ap
+    (λ q. record { who = who.One (record { actor = p.actor; phase = q; mine = p.mine ++ drop (length before) after; tried = p.tried; found = p.found; loaded = p.loaded; swept = p.swept + 5 }); seen = after; told = told; stage = stage.Away; turns = turns; misses = misses })
     (freed (deeds_of (drop (length before) after)) hand p.phase (may.free refl))
 
 pub is_finished : (a : Actor) (lock : Option Deed) (collect : Bool) (hand : List ℕ) (v w x : View) (after : List Entry) → w ≡ gathered collect hand v → x ≡ gave after w → ForOne (MayAct a collect lock) v.who → x ≡ finished collect after v
-is_finished a lock collect hand v w x after is then may = then ∙ ap (gave after) is ∙ ends a lock collect hand v.seen after v.told v.stage v.who may
+is_finished a lock collect hand v w x after is then may = then ∙ ap (gave after) is ∙ ends a lock collect hand v.seen after v.told v.stage v.turns v.misses v.who may
 
 -- ---- a seat that may take a turn may act in it
 

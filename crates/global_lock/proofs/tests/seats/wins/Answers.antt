@@ -10,4 +10,4 @@ attempt-requires-clause-seeks g c = seat_seeks _ c.requires.0 c.requires.1 c.arg
 
 pub returns : goal.returns
 returns g c =
-    λ a k h. let is = c.in-Won.ensures.attempts in tried_rests c.args.table.now.table.shared.table_id a k lock.Won is.0 c.args.seat.now c.attempt.new.seat c.in-Won.ensures.same.0 is.2 h
+    λ a k h. let is = c.in-Won.ensures.attempts in tried_rests c.args.table.now.table.shared.table_id a k lock.Won is.0 is.0 c.args.seat.now c.attempt.new.seat c.in-Won.ensures.same.0 is.3 h

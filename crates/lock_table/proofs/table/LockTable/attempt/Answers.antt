@@ -1,4 +1,5 @@
-use Rattle.std.proofs.Common.{◌≡◌, ◌<◌, sym, subst, ap, ◌∙◌, arith}
+use Rattle.std.proofs.Common.{◌≡◌, ◌<◌, true, sym, subst, ap, ◌∙◌, arith}
+use Rattle.acpi_regs.specs.CoreSound.{is_word}
 use Rattle.lock_table.specs.declared.view.View.{View}
 use Rattle.lock_table.specs.Views.{ForOne, HasLoaded, IsSeeking, loads, tries}
 use Rattle.facs_word.specs.Word.{acquired}
@@ -44,8 +45,10 @@ returns-clause-attempts g c =
     let first : c.load.new.seat.me.0 ≡ loads l v = cc (c.load.ensures.2.1, start) in
     let second : c.compare_exchange.new.seat.me.0 ≡ tries l n c.load.new.seat.me.0 = cc (c.compare_exchange.ensures.2.1) in
     let is : w ≡ tries l n (loads l v) = ap view_in c.into_badge.ensures.2 ∙ second ∙ ap (tries l n) first in
+    let good_l : is_word l ≡ true = ap is_word c.lock_word-loaded.ensures.same ∙ c.load.ensures.2.0 in
+    let good_n : is_word n ≡ true = ap is_word c.lock_word-found.ensures.same ∙ c.compare_exchange.ensures.2.0 in
     elim c.if-found-loaded.branch [
-      | then-found-loaded b ↦ subst (λ r. Attempts v r w) (sym b.result-is) ((λ e. b.if-found-loaded.true (sym e)), moved l n v w is (λ e. b.if-found-loaded.true (sym e)))
-      | else-found-loaded+then-owned b ↦ subst (λ r. Attempts v r w) (sym b.result-is) ((sym b.owned.ensures ∙ b.if-owned.true), marked l n v w is (sym b.if-found-loaded.false) (sym b.owned.ensures ∙ b.if-owned.true))
-      | else-found-loaded+else-owned b ↦ subst (λ r. Attempts v r w) (sym b.result-is) (n, (sym b.owned.ensures ∙ b.if-owned.false), won l n v w is (sym b.if-found-loaded.false) (sym b.owned.ensures ∙ b.if-owned.false))
+      | then-found-loaded b ↦ subst (λ r. Attempts v r w) (sym b.result-is) (good_l, good_n, (λ e. b.if-found-loaded.true (sym e)), moved l n v w is (λ e. b.if-found-loaded.true (sym e)))
+      | else-found-loaded+then-owned b ↦ subst (λ r. Attempts v r w) (sym b.result-is) (good_n, (sym b.owned.ensures ∙ b.if-owned.true), marked l n v w is (sym b.if-found-loaded.false) (sym b.owned.ensures ∙ b.if-owned.true))
+      | else-found-loaded+else-owned b ↦ subst (λ r. Attempts v r w) (sym b.result-is) (n, good_n, (sym b.owned.ensures ∙ b.if-owned.false), won l n v w is (sym b.if-found-loaded.false) (sym b.owned.ensures ∙ b.if-owned.false))
     ]

@@ -12,7 +12,7 @@ pub store-requires : goal.store-requires
 store-requires g c = (
   search rules,
   search rules,
-  gives_turn _ _ _ _ _ _ (staged stage.Holding c.args.seat.now.view) _ _ (swapped_me _ _ _ _ _ (lifted_me _ _ _ (seat_me c.seat.inside.badge _ _ c.taken-inner.ensures.2 c.seat.view_is) c.load.ensures.2) c.exchange-empty.ensures.3) refl c.requires.base c.requires.adds,
+  gives_turn _ _ _ _ _ _ (staged stage.Carrying c.args.seat.now.view) _ _ (swapped_me _ _ _ _ _ (lifted_me _ _ _ (seat_me c.seat.inside.badge _ _ c.taken-inner.ensures.2 c.seat.view_is) c.load.ensures.2) c.exchange-empty.ensures.3) refl c.requires.base c.requires.adds,
 )
 
 pub invariant_of-seat : goal.invariant_of-seat
