@@ -1,5 +1,7 @@
 //! The program over sources and sinks in memory, which fail at a call, have no room, or give too much. Tables of descriptions
 //! with their answers and logs stand in the crates `description_verdicts` and `machine_runs`.
+mod threads;
+
 use crate::{OpenGate, Status, acpi_events, end};
 use acpi_io::{MemorySink, MemorySource, ReadOutcome, Source};
 use acpi_regs::Actor;

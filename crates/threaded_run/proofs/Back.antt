@@ -1,5 +1,5 @@
 -- What the seats of a race bring back into the root.
-use Rattle.std.proofs.Common.{◌≡◌, ℕ, zero, suc, ◌+◌, ◌<◌, ◌≤◌, ◌⊎◌, inl, inr, ◌&&◌, ◌||◌, not, Bool, true, false, cond, List, [], ◌∷◌, ◌++◌, length, map, get_or, Option, Some, None, is_none, refl, sym, ap, subst, ◌∙◌, arith}
+use Rattle.std.proofs.Common.{◌≡◌, ℕ, zero, suc, ◌+◌, ◌<◌, ◌≤◌, ◌⊎◌, inl, inr, ◌&&◌, ◌||◌, not, Bool, true, false, cond, List, [], ◌∷◌, ◌++◌, append-nil, length, map, get_or, Option, Some, None, is_none, refl, sym, ap, subst, ◌∙◌, arith}
 use Rattle.std.proofs.lemmas.Bool.{and_from, and_parts, false_from_ne_true, not-true, or_parts}
 use Rattle.std.proofs.lemmas.List.Elements.{All-cons, All-head, All-nil, All-tail}
 use Rattle.std.specs.List.{All}
@@ -14,9 +14,11 @@ use Rattle.lock_table.specs.declared.view.Occupant.{Occupant}
 use Rattle.lock_table.specs.declared.view.Occupant.TheVariants as who
 use Rattle.lock_table.specs.declared.view.Part.{Part}
 use Rattle.lock_table.specs.declared.view.View.{View}
-use Rattle.lock_table.specs.Roots.{HasFreshBut, is_among}
+use Rattle.lock_table.specs.Calls.{Pass}
+use Rattle.lock_table.specs.Roots.{HasAllBut, HasFreshBut, is_among}
 use Rattle.lock_table.specs.Views.{ForOne, find, first_kept, fresh, is_known, phase_of, pulses_of, root_parts}
 use Rattle.lock_table.proofs.OneStep.{for_one}
+use Rattle.lock_table.proofs.Rooting.{fresh_has, has_all}
 use Rattle.fw_actors.specs.Hardware.{next_pulse}
 use Rattle.machine_desc.specs.Actors.{actors_of}
 use Rattle.machine_desc.specs.Machine.{MachineData}
@@ -26,10 +28,10 @@ use Rattle.acpi_regs.specs.declared.event.Event.{Event}
 use Rattle.sci_threads.specs.declared.any.AnyActor.{AnyActor}
 use Rattle.sci_threads.specs.declared.shared.ActorSeat.{ActorSeat}
 use Rattle.sci_threads.specs.Actors.{stands, who as who_of}
-use Rattle.sci_threads.specs.Seats.{IsFirst, names_of, part_back, parts_back}
+use Rattle.sci_threads.specs.Seats.{IsFirst, IsRootOf, names_of, part_back, parts_back}
 use Rattle.sci_threads.specs.Shared.{Agrees, IsAtEnd, IsOf, Ran, RanOn, ends_as, steps_as, steps_in}
 use Rattle.sci_threads.proofs.Once.{AllOnce, absent}
-use Rattle.threaded_run.specs.Raced.{IsBack, turns_of}
+use Rattle.threaded_run.specs.Raced.{AreBack, IsBack, turns_of}
 
 -- ---- at the start
 
@@ -73,10 +75,16 @@ beyond [] n h = refl
 beyond (x ∷ xs) zero h = absurd (omega arith)
 beyond (x ∷ xs) (suc n) h = beyond xs n (omega arith)
 
+less-left : (a b : ℕ) → a ≤ a + b
+less-left a b = omega arith
+
+less-right : (a b c : ℕ) → c ≤ b → c ≤ a + b
+less-right a b c h = omega arith
+
 within_sum : (devices : List (List Event)) (k : ℕ) → length (unwrap_or (slice_get devices k) []) ≤ sum_by length devices
 within_sum [] k = omega arith
-within_sum (d ∷ devices) zero = omega arith
-within_sum (d ∷ devices) (suc k) = let rest = within_sum devices k in omega arith
+within_sum (d ∷ devices) zero = less-left (length d) (sum_by length devices)
+within_sum (d ∷ devices) (suc k) = less-right (length d) (sum_by length devices) (length (unwrap_or (slice_get devices k) [])) (within_sum devices k)
 
 within_weight : (m : MachineData) (k : ℕ) → length (pulses m k) ≤ weight_of m
 unfolding weight_of
@@ -163,3 +171,27 @@ absent_of a (b ∷ names) none =
 
 pub others_stay : (m : MachineData) (turns : ℕ) (seats : List ActorSeat) (v w : View) → AllEnded m turns seats → root_parts w.who ≡ parts_back seats (root_parts v.who) → HasFreshBut (names_of seats) v → HasFreshBut (names_of seats) w
 others_stay m turns seats v w all back fresh a known among = ap (find a) back ∙ (not_back m turns seats (root_parts v.who) a all (absent_of a (names_of seats) among) ∙ fresh a known among)
+
+-- ---- the root with every actor
+
+pub is_back : (m base : MachineData) (id : TableId) (start root : Pass) (olds news : List ActorSeat) (actors : List AnyActor) → AllOnce (actors_of m) → base ≡ m
+    → names_of olds ≡ actors_of m → HasFreshBut (actors_of m) start.view → HaveRun m id (turns_of m) olds news
+    → IsRootOf id root → root_parts root.view.who ≡ parts_back news (root_parts start.view.who) → ((away : List Actor) → HasAllBut (names_of news ++ away) start.view → HasAllBut away root.view)
+    → actors ≡ map (λ (x : ActorSeat). x.actor) news → AreBack m base id root actors
+is_back m base id start root olds news actors once same whole fresh_are ran rooted parts back items =
+    let named : names_of news ≡ actors_of m = ran.names ∙ whole in
+    let fresh_now : HasFreshBut (names_of news) start.view = subst (λ l. HasFreshBut l start.view) (sym named) fresh_are in
+    record {
+      same = same;
+      root_is = rooted;
+      all = has_all root.view (back [] (subst (λ l. HasAllBut l start.view) (sym (append-nil (names_of news))) (fresh_has (names_of news) start.view fresh_now)));
+      whole = ap (map who_of) items ∙ (names_are news ∙ named);
+      back = subst (All (IsBack m (turns_of m) (root_parts root.view.who))) (sym items)
+          (subst (λ l. All (IsBack m (turns_of m) l) (map (λ (x : ActorSeat). x.actor) news)) (sym parts)
+          (all_back m news (root_parts start.view.who) ran.ended (subst AllOnce (sym named) once)));
+      others = subst (λ l. HasFreshBut l root.view) named (others_stay m (turns_of m) news start.view root.view ran.ended parts fresh_now);
+    }
+  where
+    names_are : (seats : List ActorSeat) → map who_of (map (λ (x : ActorSeat). x.actor) seats) ≡ names_of seats
+    names_are [] = refl
+    names_are (x ∷ seats) = ap (λ l. who_of x.actor ∷ l) (names_are seats)

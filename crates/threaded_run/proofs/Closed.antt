@@ -54,11 +54,11 @@ pins_same core pins are known n = by_test (nat_lt (event_rank n) all_events) ref
 
 found_has : (P : Part → Type 0) (a : Actor) (parts : List Part) (p : Part) → EachPart P parts → find a parts ≡ Some p → P p × (same_actor a p.actor ≡ true)
 found_has P a [] p each at = cc
-found_has P a (q ∷ parts) p each at = by_test (same_actor a q.actor) refl at
+found_has P a (q ∷ parts) p each at = by_test (same_actor a q.actor) refl at (λ e. found_has P a parts p each.1 e)
   where
-    by_test : (b : Bool) → same_actor a q.actor ≡ b → (if b then Some q else find a parts) ≡ Some p → P p × (same_actor a p.actor ≡ true)
-    by_test true same at = subst (λ r. P r × (same_actor a r.actor ≡ true)) (let e : q ≡ p = cc in e) (each.0, same)
-    by_test false apart at = found_has P a parts p each.1 at
+    by_test : (b : Bool) → same_actor a q.actor ≡ b → (if b then Some q else find a parts) ≡ Some p → (find a parts ≡ Some p → P p × (same_actor a p.actor ≡ true)) → P p × (same_actor a p.actor ≡ true)
+    by_test true same at rest = subst (λ r. P r × (same_actor a r.actor ≡ true)) (let e : q ≡ p = cc in e) (each.0, same)
+    by_test false apart at rest = rest at
 
 phase_of_found : (core : Core) (a : Actor) (parts : List Part) (p : Part) → EachPart (StandsIn core) parts → find a parts ≡ Some p → core.phases a ≡ phase_of p.phase
 phase_of_found core a parts p each at =
@@ -68,14 +68,14 @@ phase_of_found core a parts p each at =
 phases_same : (m : MachineData) (turns : ℕ) (core : Core) (parts : List Part) (actors : List AnyActor) (a : Actor) → EachPart (StandsIn core) parts → All (IsBack m turns parts) actors
     → (is_among a (map who actors) ≡ false → core.phases a ≡ first_phase a) → core.phases a ≡ phases_of actors a
 phases_same m turns core parts [] a each back other = other refl
-phases_same m turns core parts (x ∷ actors) a each back other = by_test (same_actor (who x) a) refl
+phases_same m turns core parts (x ∷ actors) a each back other =
+    by_test (same_actor (who x) a) refl (λ rest. phases_same m turns core parts actors a each (All-tail (IsBack m turns parts) x actors back) rest)
   where
-    by_test : (b : Bool) → same_actor (who x) a ≡ b → core.phases a ≡ (if b then stands x else phases_of actors a)
-    by_test true same =
+    by_test : (b : Bool) → same_actor (who x) a ≡ b → ((is_among a (map who actors) ≡ false → core.phases a ≡ first_phase a) → core.phases a ≡ phases_of actors a) → core.phases a ≡ (if b then stands x else phases_of actors a)
+    by_test true same behind =
         let it = All-head (IsBack m turns parts) x actors back in
         ap core.phases (sym (actor_true (who x) a same)) ∙ (phase_of_found core (who x) parts it.part each it.there ∙ it.phase)
-    by_test false apart =
-        phases_same m turns core parts actors a each (All-tail (IsBack m turns parts) x actors back) (λ none. other (or_from (same_actor a (who x)) (is_among a (map who actors)) (actor_swap (who x) a apart) none))
+    by_test false apart behind = behind (λ none. other (or_from (same_actor a (who x)) (is_among a (map who actors)) (actor_swap (who x) a apart) none))
 
 -- an actor that the machine has not did nothing
 others_first : (m : MachineData) (core : Core) (v : View) (a : Actor) → EachPart (StandsIn core) (root_parts v.who) → HasFreshBut (actors_of m) v → ((b : Actor) → is_known b ≡ false → core.phases b ≡ first_phase b)
@@ -106,11 +106,11 @@ first_free (actor.Firmware k) = refl
 
 nobody : (actors : List AnyActor) (a : Actor) → is_holding (phases_of actors a) ≡ false
 nobody [] a = first_free a
-nobody (x ∷ actors) a = by_test (same_actor (who x) a)
+nobody (x ∷ actors) a = by_test (same_actor (who x) a) (nobody actors a)
   where
-    by_test : (b : Bool) → is_holding (if b then stands x else phases_of actors a) ≡ false
-    by_test true = stands_free x
-    by_test false = nobody actors a
+    by_test : (b : Bool) → is_holding (phases_of actors a) ≡ false → is_holding (if b then stands x else phases_of actors a) ≡ false
+    by_test true rest = stands_free x
+    by_test false rest = rest
 
 -- ---- the word of the lock
 

@@ -47,7 +47,7 @@ pub fn carry_out<K: Sink>(raced: Raced, sink: &mut K) -> Result<(), WriteFault>
 }
 
 /// The world that a table leaves when it is closed. With the actors it stands for a sound core.
-fn closed(
+pub(crate) fn closed(
     machine: &Machine,
     table: LockTable<Board>,
     root: TableSeat,

@@ -9,10 +9,12 @@
 
 mod carry;
 mod prepared;
-mod racing;
 mod raced;
+mod racing;
+#[cfg(test)]
+mod tests;
 
 pub use carry::carry_out;
 pub use prepared::{Prepared, prepare_run};
-pub use racing::race;
 pub use raced::Raced;
+pub use racing::race;

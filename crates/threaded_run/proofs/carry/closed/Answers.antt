@@ -1,14 +1,15 @@
-use Rattle.std.proofs.Common.{◌≡◌, ◌≤◌, subst, sym}
+use Rattle.std.proofs.Common.{◌≡◌, ◌≤◌, true, subst}
+use Rattle.acpi_regs.specs.CoreSound.{is_word}
 use Rattle.threaded_run.specs.Raced.{turns_of}
 use Rattle.threaded_run.proofs.Closed.{closed, small_word}
 use Rattle.threaded_run.proofs.carry.closed.Goals as goal
 
 pub new-requires : goal.new-requires
-new-requires c = let leaves = c.close.ensures in small_word _ (subst (λ w. is_word w ≡ true) leaves.word leaves.sound.lock.agree.good)
+new-requires c = let leaves = c.close-board.ensures in small_word _ (subst (λ w. is_word w ≡ true) leaves.word leaves.sound.lock.agree.good)
 
 pub returns-clause-sound : goal.returns-clause-sound
 returns-clause-sound c =
-    let leaves = c.close.ensures in
-    closed c.args.machine.now (turns_of c.args.machine.now) c.new.result c.close.result.0 c.close.result.1 c.args.actors.now c.args.root.view leaves.core
-    c.law_rules.ensures c.new.ensures c.law_legal.ensures leaves.history leaves.word leaves.pins leaves.stands leaves.sound leaves.unknown
+    let leaves = c.close-board.ensures in
+    closed c.args.machine.now (turns_of c.args.machine.now) c.new.result c.close-board.result.0 c.close-board.result.1 c.args.actors.now c.args.root.view leaves.core
+    c.law_rules.ensures c.new.ensures c.law_legal.ensures leaves.history leaves.word leaves.pins leaves.stands leaves.sound leaves.absent
     c.requires.whole c.requires.back c.requires.others
