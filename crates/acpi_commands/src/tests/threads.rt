@@ -1,6 +1,6 @@
 //! Runs on threads: that actors are beside one another, and what holds of every log whatever turns they took.
 use super::{NO_FAULTS, call, times, words};
-use crate::{Status, acpi_events};
+use crate::{Status, acpi_events, prepare_run};
 use acpi_io::{MemorySink, MemorySource};
 use acpi_regs::{Actor, Gate};
 use std::sync::atomic::{AtomicBool, Ordering};
@@ -95,6 +95,10 @@ fn adders_under_the_lock_lose_nothing_in_200_runs(rt: HostRuntime) -> Result<(),
 #[test]
 fn a_notebook_runs_on_threads_50_times(rt: HostRuntime) -> Result<(), Fail> {
     let alloc = rt.alloc();
+    let Ok(prepared) = prepare_run(alloc, super::NOTEBOOK.as_bytes()) else {
+        return Err("no machine".into());
+    };
+    assert_eq!(rt; prepared.machine().weight(), 1317);
     for _ in 0..50u32 {
         let outcome = call(&rt, alloc, "run", super::NOTEBOOK.as_bytes(), NO_FAULTS)?;
         assert_eq!(rt; outcome.status, Status::Ok);
