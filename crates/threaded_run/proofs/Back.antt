@@ -2,6 +2,7 @@
 use Rattle.std.proofs.Common.{◌≡◌, ℕ, zero, suc, ◌+◌, ◌<◌, ◌≤◌, ◌⊎◌, inl, inr, ◌&&◌, ◌||◌, not, Bool, true, false, cond, List, [], ◌∷◌, ◌++◌, append-nil, length, map, get_or, Option, Some, None, is_none, refl, sym, ap, subst, ◌∙◌, arith}
 use Rattle.std.proofs.lemmas.Bool.{and_from, and_parts, false_from_ne_true, not-true, or_parts}
 use Rattle.std.proofs.lemmas.List.Elements.{All-cons, All-head, All-nil, All-tail}
+use Rattle.std.proofs.lemmas.List.Sums.{sum_by-cons}
 use Rattle.std.specs.List.{All}
 use Rattle.std.specs.Prelude.{slice_get, sum_by, unwrap_or}
 use Rattle.acpi_regs.specs.declared.actor.Actor.{Actor}
@@ -83,8 +84,9 @@ less-right a b c h = omega arith
 
 within_sum : (devices : List (List Event)) (k : ℕ) → length (unwrap_or (slice_get devices k) []) ≤ sum_by length devices
 within_sum [] k = omega arith
-within_sum (d ∷ devices) zero = less-left (length d) (sum_by length devices)
-within_sum (d ∷ devices) (suc k) = less-right (length d) (sum_by length devices) (length (unwrap_or (slice_get devices k) [])) (within_sum devices k)
+within_sum (d ∷ devices) zero = subst (λ s. length d ≤ s) (sym (sum_by-cons length d devices)) (less-left (length d) (sum_by length devices))
+within_sum (d ∷ devices) (suc k) =
+    subst (λ s. length (unwrap_or (slice_get devices k) []) ≤ s) (sym (sum_by-cons length d devices)) (less-right (length d) (sum_by length devices) (length (unwrap_or (slice_get devices k) [])) (within_sum devices k))
 
 within_weight : (m : MachineData) (k : ℕ) → length (pulses m k) ≤ weight_of m
 unfolding weight_of
