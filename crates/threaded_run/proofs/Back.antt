@@ -160,7 +160,7 @@ all_back m (y ∷ seats) parts all once =
     let back = part_back y.seat.view.who parts in
     let own : same_actor (who_of y.actor) p.actor ≡ true = subst (λ b. same_actor (who_of y.actor) b ≡ true) (sym all.0.2.0.0) (actor_self (who_of y.actor)) in
     let there : find (who_of y.actor) (parts_back seats back) ≡ Some p = not_back m (turns_of m) seats back (who_of y.actor) all.1 once.0
-        ∙ (ap (λ o. find (who_of y.actor) (part_back o parts)) all.0.1 ∙ ap (λ b. cond b (Some p) (find (who_of y.actor) parts)) own) in
+    ∙ (ap (λ o. find (who_of y.actor) (part_back o parts)) all.0.1 ∙ ap (λ b. cond b (Some p) (find (who_of y.actor) parts)) own) in
     All-cons (IsBack m (turns_of m) (parts_back seats back)) y.actor (map (λ (x : ActorSeat). x.actor) seats)
     (record { part = p; there = there; phase = all.0.2.0.1; ran = has_ran m p all.0.2.1 }) (all_back m seats back all.1 once.1)
 

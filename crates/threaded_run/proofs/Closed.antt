@@ -133,7 +133,7 @@ pub closed : (m : MachineData) (turns : ℕ) (w : Serial) (board : BoardData) (w
     → map who actors ≡ actors_of m → All (IsBack m turns (root_parts v.who)) actors → HasFreshBut (actors_of m) v → IsSound m (core_in w actors)
 closed m turns w board words actors v core ok world legal history word pins stand sound unknown whole back fresh_are =
     let phases : (a : Actor) → core.phases a ≡ phases_of actors a = λ a. phases_same m turns core (root_parts v.who) actors a stand back
-        (λ none. others_first m core v a stand fresh_are unknown (subst (λ l. is_among a l ≡ false) whole none)) in
+    (λ none. others_first m core v a stand fresh_are unknown (subst (λ l. is_among a l ≡ false) whole none)) in
     let pinned_are : (n : Event) → core.pins n ≡ pinned words.pins n = pins_same core words.pins pins sound.pinned.pins_known in
     let plain : Serial = record { board = board; words = words } in
     let same : core ≡ core_in plain actors = (λ i. record { word = word i; pins = λ n. pinned_are n i; history = history i; phases = λ a. phases a i }) in

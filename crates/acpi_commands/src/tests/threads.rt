@@ -86,7 +86,9 @@ fn adders_under_the_lock_lose_nothing_in_200_runs(rt: HostRuntime) -> Result<(),
         assert_eq!(rt; times(log, " busy\n"), 0);
         assert_eq!(rt; times(log, " leave 1\n"), 0);
         // The last write is the second: behind it stands no other.
-        let (_, behind) = log.split_once(" write 00:0000 02\n").ok_or("no second write")?;
+        let (_, behind) = log
+            .split_once(" write 00:0000 02\n")
+            .ok_or("no second write")?;
         assert_eq!(rt; times(behind, " write "), 0);
     }
     Ok(())
@@ -107,7 +109,9 @@ fn a_notebook_runs_on_threads_50_times(rt: HostRuntime) -> Result<(), Fail> {
             let line = format!(in alloc; " notify {notify}\n")?;
             assert_eq!(rt; times(log, line.as_str()), 1);
         }
-        let (_, behind) = log.split_once(" write 00:0000 09\n").ok_or("no ninth write")?;
+        let (_, behind) = log
+            .split_once(" write 00:0000 09\n")
+            .ok_or("no ninth write")?;
         assert_eq!(rt; times(behind, " write 00:0000 "), 0);
         assert_eq!(rt; times(log, "\nstuck "), 0);
         let verdict = call(&rt, alloc, "check", log.as_bytes(), NO_FAULTS)?;
