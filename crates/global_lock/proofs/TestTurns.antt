@@ -1,5 +1,5 @@
 -- Turns of the tests' seats.
-use Rattle.std.proofs.Common.{ℕ, zero, suc, Option, ◌≡◌, ◌++◌, ◌∷◌, [], List, map, reverse, refl, sym, ap, subst, ◌∙◌, arith}
+use Rattle.std.proofs.Common.{ℕ, zero, suc, Bool, true, false, Option, ◌≡◌, ◌++◌, ◌∷◌, [], List, map, reverse, refl, sym, ap, subst, ◌∙◌, arith}
 use Rattle.acpi_regs.specs.declared.actor.Actor.{Actor}
 use Rattle.acpi_regs.specs.declared.actor.Actor.TheVariants as actor
 use Rattle.acpi_regs.specs.declared.entry.Deed.{Deed}
@@ -20,7 +20,7 @@ use Rattle.lock_table.specs.declared.view.Stage.TheVariants as stage
 use Rattle.lock_table.specs.declared.view.View.{View}
 use Rattle.lock_table.specs.Calls.{Pass}
 use Rattle.lock_table.specs.Roots.{TableName}
-use Rattle.lock_table.specs.Views.{ForOne, IsFreeHost, IsSeeking, MayAdd, after_deeds, deeds_of, exchanged, gave, holding, let_go, map_one, missed, new_in, noted, phase_of, staged, took, with_one, wrote}
+use Rattle.lock_table.specs.Views.{ForOne, IsFreeHost, IsSeeking, MayAdd, after_deed, after_deeds, deeds_of, exchanged, gave, holding, let_go, map_one, missed, new_in, noted, phase_of, staged, took, with_one, wrote}
 use Rattle.lock_table.proofs.Histories.{deeds_back, new_behind}
 use Rattle.lock_table.proofs.QuietTurns.{adds_nothing, adds_one}
 use Rattle.global_lock.specs.declared.calls.Acquired.TheVariants as acquired
@@ -163,3 +163,33 @@ one_latch past = record {
   few = omega arith;
   each = (refl, tt, tt);
 }
+
+-- ---- a turn of an idle actor that makes one entry where there is room
+
+abbrev idle : SeatPhase
+idle = kept.Lock lock.Idle
+
+made_of : Bool → Deed → List Deed
+made_of true d = d ∷ []
+made_of false d = []
+
+adds_made : (a : Actor) (d : Deed) (found after : List Entry) (b : Bool) → (b ≡ true → after ≡ found ++ entry a d ∷ []) → (b ≡ false → after ≡ found) → after ≡ found ++ map (entry a) (made_of b d)
+unfolding made_of
+adds_made a d found after true noted full = noted refl
+adds_made a d found after false noted full = full refl ∙ with_none found
+
+turn_made : (a : Actor) (d : Deed) (found : List Entry) (b : Bool) → MayNote idle d → IsUnsought (reverse found) a d → IsTurn (phase_of idle) (reverse found) a (made_of b d)
+unfolding made_of
+turn_made a d found true note unsought = one_entry idle a d found note unsought
+turn_made a d found false note unsought = nothing idle a found refl
+
+idle_made : (d : Deed) (b : Bool) → let_go (after_deed d idle) ≡ idle → let_go (after_deeds (made_of b d) idle) ≡ idle
+unfolding made_of
+idle_made d true stays = stays
+idle_made d false stays = refl
+
+pub may_made : (id : TableName) (a : Actor) (d : Deed) (found after : List Entry) (b : Bool) (s : Pass) → IsInside id a idle found s → MayNote idle d → IsUnsought (reverse found) a d → (b ≡ true → after ≡ found ++ entry a d ∷ []) → (b ≡ false → after ≡ found) → MayAdd s.view.who s.view.seen after
+may_made id a d found after b s h note unsought noted full = may id a idle found after (made_of b d) s h (adds_made a d found after b noted full) (turn_made a d found b note unsought)
+
+pub left_idle : (id : TableName) (a : Actor) (d : Deed) (found after : List Entry) (b : Bool) (s t : Pass) → IsInside id a idle found s → let_go (after_deed d idle) ≡ idle → (b ≡ true → after ≡ found ++ entry a d ∷ []) → (b ≡ false → after ≡ found) → t.table ≡ s.table → t.view ≡ gave after s.view → Rests id a idle t
+left_idle id a d found after b s t h stays noted full same view = subst (λ k. Rests id a k t) (idle_made d b stays) (left id a idle found after (made_of b d) s t h (adds_made a d found after b noted full) same view)

@@ -3,9 +3,11 @@ use Rattle.std.specs.Prelude.{◌≡◌, true, false, List}
 use Rattle.acpi_regs.specs.declared.actor.Actor.{Actor}
 use Rattle.acpi_regs.specs.declared.entry.Deed.{Deed}
 use Rattle.acpi_regs.specs.declared.entry.Entry.{Entry}
+use Rattle.acpi_regs.specs.declared.phase.LockPhase.TheVariants as lock
 use Rattle.acpi_regs.specs.CoreEvents.{is_holding, is_latch, may_add}
 use Rattle.lock_table.specs.declared.view.Part.{Part}
 use Rattle.lock_table.specs.declared.view.SeatPhase.{SeatPhase}
+use Rattle.lock_table.specs.declared.view.SeatPhase.TheVariants as kept
 use Rattle.lock_table.specs.declared.view.Stage.TheVariants as stage
 use Rattle.lock_table.specs.Calls.{Pass}
 use Rattle.lock_table.specs.Roots.{TableName}
@@ -38,3 +40,7 @@ IsInside id a k found s = (s.table ≡ id) × (s.view.stage ≡ stage.Inside) ×
 -- a phase with no pins in hand
 abbrev pub MayPass : SeatPhase → Type 0
 MayPass k = is_holding (phase_of k) ≡ false
+
+-- this worker's or firmware's seat of this table, idle and without the turn
+abbrev pub IsIdle : TableName → Actor → Pass → Type 0
+IsIdle id a s = Rests id a (kept.Lock lock.Idle) s

@@ -3,3 +3,4 @@
 mod notes;
 mod rows;
 mod seats;
+mod threads;

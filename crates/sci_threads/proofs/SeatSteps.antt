@@ -31,6 +31,7 @@ use Rattle.machine_history.specs.Legal.{Legal}
 use Rattle.machine_history.specs.Scripts.{next_of}
 use Rattle.machine_history.specs.Steps.{script_entry}
 use Rattle.atomic_table.specs.Seated.{TableId}
+use Rattle.world.specs.declared.table_world.TableWorld.{TableWorld}
 use Rattle.world.specs.declared.turn.Acted.{Acted}
 use Rattle.world.specs.declared.turn.Acted.TheVariants as acted
 use Rattle.world.specs.declared.outcome.StepOutcome.{StepOutcome}
@@ -114,11 +115,11 @@ moved_once a (Some d) q = refl
 module _ (m : MachineData) (a : Actor) (k : LockPhase) (v w : View) (p : Part) (isnt : is_device a ≡ false) (is : v.who ≡ who.One p) (its : p.actor ≡ a) (in_phase : phase_of p.phase ≡ Lock k) (v_away : v.stage ≡ stage.Away) where
   attempted : (r : Attempt) (o : StepOutcome) (q : LockPhase) → SeatMakes m v (Attempted r) w → ScriptAnswers m a k (Attempted r) o q → Stepped m o a (Lock q) v w
   attempted attempt.Won o q makes says =
-      tries_once m o a (Lock q) v w p _ isnt is (one_after _ v.who w.who p is (ap (λ (x : View). x.who) makes.2)) its refl (ap Lock (sym says.2)) refl (ap (λ (x : View). x.stage) makes.2 ∙ v_away) (λ ended. absurd (not_ended attempt.Won (sym (ap is_ended says.1) ∙ ended)))
+      tries_once m o a (Lock q) v w p _ isnt is (one_after _ v.who w.who p is (ap (λ (x : View). x.who) makes.3)) its refl (ap Lock (sym says.2)) refl (ap (λ (x : View). x.stage) makes.3 ∙ v_away) (λ ended. absurd (not_ended attempt.Won (sym (ap is_ended says.1) ∙ ended)))
   attempted (attempt.Marked n) o q makes says =
-      tries_once m o a (Lock q) v w p _ isnt is (one_after _ v.who w.who p is (ap (λ (x : View). x.who) makes.1)) its refl (ap Lock (sym says.2)) refl (ap (λ (x : View). x.stage) makes.1 ∙ v_away) (λ ended. absurd (not_ended (attempt.Marked n) (sym (ap is_ended says.1) ∙ ended)))
+      tries_once m o a (Lock q) v w p _ isnt is (one_after _ v.who w.who p is (ap (λ (x : View). x.who) makes.2)) its refl (ap Lock (sym says.2)) refl (ap (λ (x : View). x.stage) makes.2 ∙ v_away) (λ ended. absurd (not_ended (attempt.Marked n) (sym (ap is_ended says.1) ∙ ended)))
   attempted (attempt.Moved l n) o q makes says =
-      tries_once m o a (Lock q) v w p _ isnt is (one_after _ v.who w.who p is (ap (λ (x : View). x.who) makes.1)) its refl (ap Lock (sym says.2)) refl (ap (λ (x : View). x.stage) makes.1 ∙ v_away) (λ ended. absurd (not_ended (attempt.Moved l n) (sym (ap is_ended says.1) ∙ ended)))
+      tries_once m o a (Lock q) v w p _ isnt is (one_after _ v.who w.who p is (ap (λ (x : View). x.who) makes.3)) its refl (ap Lock (sym says.2)) refl (ap (λ (x : View). x.stage) makes.3 ∙ v_away) (λ ended. absurd (not_ended (attempt.Moved l n) (sym (ap is_ended says.1) ∙ ended)))
 
   new_is : (before after : List Entry) (made : Option Deed) → after ≡ before ++ added a made → drop (length before) after ≡ added a made
   new_is before after made adds = ap (drop (length before)) adds ∙ drop-append_seam before (added a made)
@@ -203,7 +204,10 @@ ready_again m id o a f g s t ready same stepped = record { table = same.0 ∙ re
 
 -- ---- a device's pulse, as its seat tells it
 
-pub pulses_seen : {W : Type 0} (makes : W → Actor → Call → W → Type 0) (m : MachineData) (a : Actor) (w w' : W) (v u : View) → ((n : Event) (clear : Bool) → makes w a (Pulsed_at n clear) w' → u ≡ pulses n clear v) → (w' ≡ w → u ≡ v) → (n : Option Event) (ps qs : List Pulse) (o : StepOutcome)
-    → PulsesNext makes a w ps n o w' qs → PulsesNext (SeenMakes m) a v ps n o u qs
-pulses_seen makes m a w w' v u made same None ps qs o h = (h.0, same h.1, h.2)
-pulses_seen makes m a w w' v u made same (Some n) ps qs o h = (h.0, made n h.0 h.1, h.2, h.3)
+-- what a call makes of the world over a seat
+abbrev WorldMakes : TableWorld → Actor → Call → TableWorld → Type 0
+WorldMakes w a call w' = (w'.table.now ≡ w.table.now) × (w'.seat.ghost_name ≡ w.seat.ghost_name) × SameSeat w.seat.now w'.seat.now × SeatMakes w.table.now.table.shared.key.machine w.seat.now.view call w'.seat.now.view
+
+pub pulses_seen : (m : MachineData) (a : Actor) (w w' : TableWorld) (n : Option Event) (ps qs : List Pulse) (o : StepOutcome) → PulsesNext WorldMakes a w ps n o w' qs → PulsesNext (SeenMakes m) a w.seat.now.view ps n o w'.seat.now.view qs
+pulses_seen m a w w' None ps qs o h = (h.0, ap (λ (t : TableWorld). t.seat.now.view) h.1, h.2)
+pulses_seen m a w w' (Some n) ps qs o h = (h.0, h.1.3, h.2, h.3)

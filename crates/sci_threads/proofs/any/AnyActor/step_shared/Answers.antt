@@ -71,7 +71,7 @@ returns-in-Int-clause-answers c =
     let v = c.args.world.now.seat.now.view in
     let w = c.step.new.world.seat.now.view in
     let made = subst (λ (m : MachineData). SeatMakes m v s.0 w) c.requires.machine s.1.3 in
-    subst (λ x. SeatSteps m x v c.step.result w c.args.self.now) (sym c.in-Int.is) (s.0, made, s.2)
+    subst (λ x. SeatSteps m x v c.step.result w (any.Int c.step.new.self)) (sym c.in-Int.is) (s.0, made, s.2)
 
 pub returns-in-Poll-clause-answers : goal.returns-in-Poll-clause-answers
 returns-in-Poll-clause-answers c =
@@ -80,7 +80,7 @@ returns-in-Poll-clause-answers c =
     let v = c.args.world.now.seat.now.view in
     let w = c.step-in-Poll.new.world.seat.now.view in
     let made = subst (λ (m : MachineData). SeatMakes m v s.0 w) c.requires.machine s.1.3 in
-    subst (λ x. SeatSteps m x v c.step-in-Poll.result w c.args.self.now) (sym c.in-Poll.is) (s.0, made, s.2)
+    subst (λ x. SeatSteps m x v c.step-in-Poll.result w (any.Poll c.step-in-Poll.new.self)) (sym c.in-Poll.is) (s.0, made, s.2)
 
 pub returns-in-Ec-clause-answers : goal.returns-in-Ec-clause-answers
 returns-in-Ec-clause-answers c =
@@ -89,7 +89,7 @@ returns-in-Ec-clause-answers c =
     let v = c.args.world.now.seat.now.view in
     let w = c.step-in-Ec.new.world.seat.now.view in
     let made = subst (λ (m : MachineData). SeatMakes m v s.0 w) c.requires.machine s.1.3 in
-    subst (λ x. SeatSteps m x v c.step-in-Ec.result w c.args.self.now) (sym c.in-Ec.is) (s.0, made, s.2)
+    subst (λ x. SeatSteps m x v c.step-in-Ec.result w (any.Ec c.step-in-Ec.new.self)) (sym c.in-Ec.is) (s.0, made, s.2)
 
 pub returns-in-Worker-clause-answers : goal.returns-in-Worker-clause-answers
 returns-in-Worker-clause-answers c =
@@ -117,5 +117,5 @@ returns-in-Device-clause-answers c =
     let o = c.step-in-Device.result in
     let v = c.args.world.now.seat.now.view in
     let w = c.step-in-Device.new.world.seat.now.view in
-    let seen = pulses_seen _ m (actor.Device d.number) c.args.world.now c.step-in-Device.new.world v w (λ n clear it. it.3) (λ e. ap (λ t. t.seat.now.view) e) (next_pulse m d.number d.pulses) d.pulses e.pulses o c.step-in-Device.ensures.steps in
+    let seen = pulses_seen m (actor.Device d.number) c.args.world.now c.step-in-Device.new.world (next_pulse m d.number d.pulses) d.pulses e.pulses o c.step-in-Device.ensures.steps in
     subst (λ x. SeatSteps m x v o w (any.Device e)) (sym c.in-Device.is) (e.pulses, refl, seen)
