@@ -1,4 +1,4 @@
--- The codes of the runs of query handlers that were started (ACPI 6.5, section 5.6.4.1.3).
+-- The codes of the runs of query handlers that were started (ACPI 6.5, section 5.6.4.1).
 use Rattle.std.specs.Prelude.{ℕ, ◌≡◌, List, [], ◌∷◌, ◌++◌, Option, Some, None, slice_get}
 use Rattle.acpi_regs.specs.declared.entry.Deed.{Deed}
 use Rattle.acpi_regs.specs.declared.entry.Deed.TheVariants as deed

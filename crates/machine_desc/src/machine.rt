@@ -31,7 +31,7 @@ pub struct ListedEvent {
     pub script: Script,
 }
 
-/// The handler of a query code (ACPI 6.5, section 5.6.4.1.3).
+/// The handler of a query code (ACPI 6.5, section 5.6.4.1).
 #[derive(Debug, Drop)]
 pub struct Query {
     /// The code, from 1 to 255.

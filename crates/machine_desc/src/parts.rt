@@ -98,7 +98,7 @@ pub struct ControllerPart {
     pub queries: Items<QueryPart>,
 }
 
-/// The handler of a query code (ACPI 6.5, section 5.6.4.1.3).
+/// The handler of a query code (ACPI 6.5, section 5.6.4.1).
 #[derive(Debug, Drop)]
 pub struct QueryPart {
     /// The code, from 1 to 255.

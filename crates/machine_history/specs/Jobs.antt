@@ -1,4 +1,4 @@
--- Jobs in the order in which they are made, their starts, and who runs them (ACPI 6.5, sections 5.6.4.1 and 5.6.4.1.3).
+-- Jobs in the order in which they are made, their starts, and who runs them (ACPI 6.5, section 5.6.4.1).
 use Rattle.std.specs.Prelude.{ℕ, ◌+◌, ◌==◌, ◌&&◌, not, Bool, true, false, List, [], ◌∷◌, ◌++◌, Option, Some, None, slice_get, if◌then◌else◌}
 use Rattle.acpi_regs.specs.declared.actor.Actor.{Actor}
 use Rattle.acpi_regs.specs.declared.entry.Deed.{Deed}

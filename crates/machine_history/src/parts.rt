@@ -22,7 +22,7 @@ pub enum Job {
     Event(Event),
     /// Ask the controller for its first outstanding query code (ACPI 6.5, section 12.3.5).
     Query,
-    /// Run the handler of a query code (ACPI 6.5, section 5.6.4.1.3).
+    /// Run the handler of a query code (ACPI 6.5, section 5.6.4.1).
     Code(u8),
 }
 

@@ -204,7 +204,7 @@ event_members d = do
 abbrev pub listed_event_shape : Data → Reading EventPart
 listed_event_shape d = object_of (codes "name" ∷ codes "refs" ∷ codes "script" ∷ []) event_members d
 
--- a query code with a handler (ACPI 6.5, section 5.6.4.1.3)
+-- a query code with a handler (ACPI 6.5, section 5.6.4.1)
 abbrev pub query_members : Data → Reading QueryPart
 query_members d = do
   name ← member_in (codes "name") query_code_shape d

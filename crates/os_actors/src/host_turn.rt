@@ -16,6 +16,7 @@ pub struct HostTurn {
 }
 
 impl HostTurn {
+    /// The turn of this actor, int or poll.
     pub fn new(actor: Actor) -> HostTurn
         requires { is_host actor ≡ true }
         ensures { result.actor ≡ actor }

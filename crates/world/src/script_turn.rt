@@ -20,6 +20,7 @@ pub struct ScriptTurn {
 }
 
 impl ScriptTurn {
+    /// The turn of this worker or firmware in a phase, before anything was added.
     pub fn new(actor: Actor, phase: LockPhase) -> ScriptTurn
         requires { is_host actor ≡ false }
         ensures actor { result.actor ≡ actor }
