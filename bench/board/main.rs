@@ -44,12 +44,16 @@ fn measure(rt: &HostRuntime, board: &mut Board) -> io::Result<()> {
     Ok(())
 }
 
-/// One entry of each actor that has one.
+/// One entry of each actor of the OS and the hardware that has one, and where none has, one of each firmware.
 fn round(board: &mut Board) {
+    let before = board.len();
     step(board, Actor::Int);
     step(board, Actor::Poll);
     step(board, Actor::Worker(0));
     step(board, Actor::Ec);
+    if board.len() > before {
+        return;
+    }
     for number in 0..8u8 {
         step(board, Actor::Firmware(number));
     }

@@ -18,6 +18,7 @@ enum Deed {
     Disown,
     Leave(bool),
     Start(u32),
+    Finish(u32),
 }
 
 /// A table: the turn is 0 while nobody has it.
@@ -88,9 +89,10 @@ fn episodes(locks: bool) {
             let signal = table.release();
             assert!(table.turn_with(Some((0, Deed::Leave(signal)))));
         } else {
-            for number in 0..4 {
-                assert!(table.turn_with(Some((0, Deed::Start(number)))));
-            }
+            assert!(table.turn_with(Some((0, Deed::Start(0)))));
+            assert!(table.turn_with(Some((0, Deed::Start(1)))));
+            assert!(table.turn_with(Some((0, Deed::Start(2)))));
+            assert!(table.turn_with(Some((0, Deed::Finish(0)))));
         }
     }
 }

@@ -1,10 +1,13 @@
-//! A program that shows how near histories come to the weight of their machine.
+//! A program that shows how near histories come to the weight of their machine, and what a board tells at the end.
 //!
 //! Standard input is a table: a line with a name, and a line with a description. For each machine the program makes the steps
 //! of the schedule, and behind each it lets the interrupt handler, the poll, the first worker and the controller go on until
 //! none of them does anything. So each act of the firmware is answered to its end before the next: the line of a level event
 //! that stays asserted brings all its runs. Then it makes rounds, and prints the number of entries, the weight, and the last line
 //! of the log.
+//!
+//! Where the name ends with `, its log` it makes the steps of the schedule alone, then rounds, and prints the whole log as
+//! `log_bytes` gives it, and the references to each listed event behind it.
 //!
 //! No history is longer than the weight (`law_weight` of `machine_core`). The table has machines whose longest history is as
 //! long as that, so the weight could not be less.
@@ -32,6 +35,15 @@ const LIMIT: usize = 2_097_152;
 /// How often each of them may go on at most, behind one step of the schedule.
 const MOST: u32 = 1_048_576;
 
+/// How a machine is played, and what is told of it.
+#[derive(Clone, Copy, PartialEq, Eq)]
+enum Way {
+    /// Each step of the schedule is answered to its end; the length of the history.
+    Length,
+    /// The steps of the schedule alone; the log.
+    Log,
+}
+
 fn main(rt: HostRuntime) -> io::Result<()> {
     let mut source = StdSource::new(rt.reader());
     let Ok(bytes) = read_all(rt.alloc(), &mut source, LIMIT) else {
@@ -43,8 +55,13 @@ fn main(rt: HostRuntime) -> io::Result<()> {
             None => name = Some(line),
             Some(given) => {
                 let given = str::from_utf8(given).unwrap_or("?");
-                match played(rt.alloc(), line) {
-                    Some(told) => println!(&rt; "{given}: {told}")?,
+                let way = if given.ends_with(", its log") {
+                    Way::Log
+                } else {
+                    Way::Length
+                };
+                match played(rt.alloc(), line, way) {
+                    Some(told) => println!(&rt; "{given}:{told}")?,
                     None => println!(&rt; "{given}: no description")?,
                 }
                 name = None;
@@ -54,14 +71,14 @@ fn main(rt: HostRuntime) -> io::Result<()> {
     Ok(())
 }
 
-/// How long the history is that the machine of a description plays, and how long it could be.
-fn played(alloc: Global, description: &[u8]) -> Option<String> {
+/// What is told of the machine of a description, once it has been played.
+fn played(alloc: Global, description: &[u8], way: Way) -> Option<String> {
     let machine = read_machine(alloc, description).ok()?;
-    lengths(alloc, &machine)
+    told_of(alloc, &machine, way)
 }
 
 /// The same of a machine.
-fn lengths(alloc: Global, machine: &Machine) -> Option<String> {
+fn told_of(alloc: Global, machine: &Machine, way: Way) -> Option<String> {
     if machine.weight() > 1_048_576 {
         return None;
     }
@@ -76,22 +93,39 @@ fn lengths(alloc: Global, machine: &Machine) -> Option<String> {
     };
     let mut world = SerialWorld::fresh(board);
     law_start();
-    play(machine, &mut world, &mut actors);
-    told(alloc, world.board()).ok()
+    play(machine, &mut world, &mut actors, way);
+    match way {
+        Way::Length => length(alloc, world.board()).ok(),
+        Way::Log => log(alloc, world.board()).ok(),
+    }
+}
+
+/// The whole log, and how many references each listed event has.
+fn log(alloc: Global, board: &Board) -> Result<String, Memory> {
+    let text = log_bytes(alloc, board)?;
+    let text = str::from_utf8(&text).unwrap_or("?");
+    let mut told = format!(in alloc; "\n{text}references:")?;
+    for it in board.machine().events() {
+        let event = it.listed.event;
+        if board.lists(event) {
+            told.push_str(&format!(in alloc; " {event:?} {}", board.count(event))?)?;
+        }
+    }
+    Ok(told)
 }
 
 /// The number of entries, the weight, and the last line of the log.
-fn told(alloc: Global, board: &Board) -> Result<String, Memory> {
+fn length(alloc: Global, board: &Board) -> Result<String, Memory> {
     let text = log_bytes(alloc, board)?;
     let lines = text.strip_suffix(b"\n").unwrap_or(&text);
     let last = lines.split(|byte| *byte == b'\n').last().unwrap_or(b"");
     let last = str::from_utf8(last).unwrap_or("?");
-    let told = format!(in alloc; "{} of {}, {last}", board.len(), board.machine().weight())?;
+    let told = format!(in alloc; " {} of {}, {last}", board.len(), board.machine().weight())?;
     Ok(told)
 }
 
-/// Makes the steps of the schedule, the OS's answer to each behind it, and rounds to their end.
-fn play(machine: &Machine, world: &mut SerialWorld, actors: &mut Vec<AnyActor>)
+/// Makes the steps of the schedule, the OS's answer to each behind it unless the log is wanted, and rounds to their end.
+fn play(machine: &Machine, world: &mut SerialWorld, actors: &mut Vec<AnyActor>, way: Way)
     requires machine { world.old.board.machine ≡ machine.now }
     requires actors { map who actors.old.items ≡ actors_of machine.now }
     requires sound { IsSound machine.now (core_in world.old actors.old.items) }
@@ -99,7 +133,9 @@ fn play(machine: &Machine, world: &mut SerialWorld, actors: &mut Vec<AnyActor>)
     machine.law_rules();
     for name in machine.schedule() {
         step_of(world, machine, actors, *name);
-        answer(machine, world, actors);
+        if way == Way::Length {
+            answer(machine, world, actors);
+        }
     }
     drain(world, machine, actors);
 }

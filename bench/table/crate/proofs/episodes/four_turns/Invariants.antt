@@ -1,8 +1,0 @@
-use Rattle.acpi_regs.specs.declared.actor.Actor.TheVariants as actor
-use Rattle.acpi_regs.specs.declared.phase.LockPhase.TheVariants as lock
-use Rattle.lock_table.specs.declared.view.SeatPhase.TheVariants as kept
-use Rattle.global_lock.specs.TestSeats.{Rests}
-use Rattle.measured_table.proofs.episodes.four_turns.Given as goal
-
-abbrev pub invariant-loop-number : goal.invariant-loop-number
-invariant-loop-number g l = Rests l.table.table.shared.table_id (actor.Firmware 0) (kept.Lock lock.Idle) l.seat
