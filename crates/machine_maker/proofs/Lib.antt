@@ -1,0 +1,5 @@
+mod Rows
+mod Plain
+mod Faultless
+mod Light
+mod Form

@@ -1,0 +1,1 @@
+//! Machines that are made, against parts worked out by hand.
