@@ -171,6 +171,5 @@ breaks_no_rule number size few =
     let p = parts_of number size in
     let firmware = firmware_clean (map listed_part (each_of 8 quiet_event)) (event.Gpe 110) number size few in
     let devices = devices_clean size few in
-    let actors = (firmware, (devices, (schedule_clean (counts p), tt))) in
-    let handlers = (events_clean, (controller_clean, (queries_clean, actors))) in
-    all_none (machine_rows p) (gpe_clean, (workers_clean, (regions_clean, (fields_clean, handlers))))
+    let clean : AllNone (machine_rows p) = (gpe_clean, (workers_clean, (regions_clean, (fields_clean, (events_clean, (controller_clean, (queries_clean, (firmware, (devices, (schedule_clean (counts p), tt)))))))))) in
+    all_none (machine_rows p) clean

@@ -11,7 +11,7 @@ no_codes : HaveCodes []
 no_codes = all HasCode [] tt
 
 event_formed : (n : ℕ) → IsEventPart (quiet_event n)
-event_formed n = record { listed = refl; level = refl; codes = no_codes }
+event_formed n = record { listed = refl; level = tt; codes = no_codes }
 
 query_formed : (k : ℕ) → IsQueryPart (code_handler (k + 1))
 query_formed k = record { code = omega arith; codes = all HasCode (code_script (k + 1)) (tt, (tt, tt)) }

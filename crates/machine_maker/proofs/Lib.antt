@@ -1,5 +1,5 @@
-mod Rows
-mod Plain
 mod Faultless
-mod Light
 mod Form
+mod Light
+pub mod Plain
+pub mod Rows

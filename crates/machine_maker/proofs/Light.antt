@@ -210,6 +210,6 @@ is_light number size few =
     let moves : all_moves m ≤ 0 = omega arith in
     let calls : calls_of m (event.Gpe 110) ≤ 512 = calls_few number size (event.Gpe 110) few in
     total (firmware_size m) (sum_by length (devices size)) (events_size m) (queries_size m) (pushes m) (all_moves m) (calls_of m (event.Gpe 110))
-        (queries_asked (pushes m) (all_moves m) (calls_of m (event.Gpe 110))) (calls_of m gbl)
-        (firmware_size_few number size few) (latches_few size few) (events_size_few number size few) (queries_size_few number size few) pushed moves calls
-        (asked_few (pushes m) (all_moves m) (calls_of m (event.Gpe 110)) pushed moves calls) (calls_few number size gbl few)
+    (queries_asked (pushes m) (all_moves m) (calls_of m (event.Gpe 110))) (calls_of m gbl)
+    (firmware_size_few number size few) (latches_few size few) (events_size_few number size few) (queries_size_few number size few) pushed moves calls
+    (asked_few (pushes m) (all_moves m) (calls_of m (event.Gpe 110)) pushed moves calls) (calls_few number size gbl few)
