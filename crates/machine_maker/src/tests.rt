@@ -2,6 +2,8 @@
 ghost use Rattle.std.specs.Prelude.{IfOk};
 
 use crate::make;
+use acpi_regs::Event;
+use handler_script::Op;
 use machine_desc::Machine;
 use std::alloc::Global;
 use std::test::Fail;
@@ -14,27 +16,59 @@ fn sized(alloc: Global, number: u32, size: u8) -> Result<Machine, Fail> {
     Ok(make(alloc, number, size)?)
 }
 
+/// Whether the two are one addition, or one push.
+fn is_same(one: &Op, other: &Op) -> bool {
+    match one {
+        Op::Add(field, value) => matches!(other, Op::Add(f, v) if f == field && v == value),
+        Op::Push(code) => matches!(other, Op::Push(q) if q == code),
+        _ => false,
+    }
+}
+
+fn are_same(ones: &[Op], others: &[Op]) -> bool {
+    ones.len() == others.len()
+        && ones
+            .iter()
+            .zip(others)
+            .all(|(one, other)| is_same(one, other))
+}
+
 #[test]
-fn operations_and_pulses_of_the_smallest_machine(rt: HostRuntime) -> Result<(), Fail> {
+fn operations_of_the_smallest_machine(rt: HostRuntime) -> Result<(), Fail> {
     let machine = make(rt.alloc(), 0, 1)?;
-    // 37 times the place, modulo 256: below 128 an addition to the field of that number modulo 16, else a push of 1 more
-    // than that number modulo 8. The scripts begin at places 0, 16, 32 and 48.
-    let scripts = machine.firmware();
-    assert_eq!(rt; scripts.len(), 4);
-    let first = format!(in rt.alloc(); "{:?}", scripts[0].ops())?;
-    assert_eq!(rt;
-        first.as_str(),
-        "[Add(0, 1), Add(5, 1), Add(10, 1), Add(15, 1), Push(5), Push(2), Push(7), Add(3, 1), Add(8, 1), Add(13, 1), Add(2, 1), Push(8), Push(5), Push(2), Add(6, 1), Add(11, 1)]"
-    );
-    let last = format!(in rt.alloc(); "{:?}", scripts[3].ops())?;
-    assert_eq!(rt;
-        last.as_str(),
-        "[Push(1), Add(5, 1), Add(10, 1), Add(15, 1), Push(5), Push(2), Push(7), Push(4), Add(8, 1), Add(13, 1), Add(2, 1), Push(8), Push(5), Push(2), Push(7), Add(11, 1)]"
-    );
-    let devices = machine.devices();
-    assert_eq!(rt; devices.len(), 2);
-    let pulses = format!(in rt.alloc(); "{:?}", devices[1].as_slice())?;
-    assert_eq!(rt; pulses.as_str(), "[Gpe(4), Gpe(5), Gpe(6), Gpe(7)]");
+    // 37 times the place, modulo 256: 0, 37, 74, 111, 148, 185, 222, 3, 40, 77, 114, 151, 188, 225, 6, 43.
+    let first = machine.firmware().first().ok_or("no script")?;
+    let expected = [
+        Op::Add(0, 1),
+        Op::Add(5, 1),
+        Op::Add(10, 1),
+        Op::Add(15, 1),
+        Op::Push(5),
+        Op::Push(2),
+        Op::Push(7),
+        Op::Add(3, 1),
+        Op::Add(8, 1),
+        Op::Add(13, 1),
+        Op::Add(2, 1),
+        Op::Push(8),
+        Op::Push(5),
+        Op::Push(2),
+        Op::Add(6, 1),
+        Op::Add(11, 1),
+    ];
+    assert!(rt; are_same(first.ops(), &expected));
+    Ok(())
+}
+
+#[test]
+fn last_items_of_the_largest_machine(rt: HostRuntime) -> Result<(), Fail> {
+    let machine = make(rt.alloc(), 4_294_967_295, 64)?;
+    // 255 and 37 times 4,095 make 151,770, which is 218 modulo 256; and there are 512 pulses.
+    let last = machine.firmware().last().ok_or("no script")?;
+    let op = last.ops().last().ok_or("no operation")?;
+    assert!(rt; is_same(op, &Op::Push(3)));
+    let pulses = machine.devices().last().ok_or("no device")?;
+    assert_eq!(rt; pulses.as_slice().last(), Some(&Event::Gpe(7)));
     Ok(())
 }
 
