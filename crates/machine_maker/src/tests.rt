@@ -1,6 +1,4 @@
 //! Machines that are made, against weights and parts worked out by hand.
-ghost use Rattle.std.specs.Prelude.{IfOk};
-
 use crate::make;
 use acpi_regs::Event;
 use handler_script::Op;
