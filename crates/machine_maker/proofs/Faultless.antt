@@ -1,9 +1,8 @@
 -- The parts of a machine that is made break no rule.
-use Rattle.std.proofs.Common.{◌≡◌, ℕ, zero, suc, ◌+◌, ◌*◌, ◌<◌, ◌≤◌, Bool, true, false, not, nat_lt, List, [], ◌∷◌, length, map, Option, Some, None, refl, sym, ap, ◌∙◌, subst, if◌then◌else◌, cond, arith}
+use Rattle.std.proofs.Common.{◌≡◌, ℕ, suc, ◌+◌, ◌*◌, ◌<◌, ◌≤◌, Bool, true, false, not, List, [], ◌∷◌, length, map, Option, Some, None, refl, ap, ◌∙◌, if◌then◌else◌, cond, arith}
 use Rattle.std.proofs.lemmas.Bool.{le-ltb, lt-ltb}
 use Rattle.std.specs.List.{position, position_or_len}
 use Rattle.std.specs.Option.{option_map}
-use Rattle.acpi_regs.specs.declared.actor.Side.{Side}
 use Rattle.acpi_regs.specs.declared.actor.Side.TheVariants as side
 use Rattle.acpi_regs.specs.declared.event.Event.{Event}
 use Rattle.acpi_regs.specs.declared.event.Event.TheVariants as event
@@ -15,7 +14,6 @@ use Rattle.handler_script.specs.declared.op.Op.{Op}
 use Rattle.handler_script.specs.declared.op.Op.TheVariants as op
 use Rattle.handler_script.specs.Accepts.{faults_from, op_fault, open_after, script_fault}
 use Rattle.handler_script.specs.Accepts as accepts
-use Rattle.machine_desc.specs.declared.fault.BadMachine.{BadMachine}
 use Rattle.machine_desc.specs.declared.fault.Part.{Part}
 use Rattle.machine_desc.specs.declared.fault.Part.TheVariants as part
 use Rattle.machine_desc.specs.declared.fault.Rule.TheVariants as rule
@@ -23,7 +21,7 @@ use Rattle.machine_desc.specs.declared.fault.Spot.{Spot}
 use Rattle.machine_desc.specs.declared.lists.Counts.{Counts}
 use Rattle.machine_desc.specs.Faults.{breaks, breaks_at, first_of, in_item, items_from}
 use Rattle.machine_desc.specs.Machine.{listed_part}
-use Rattle.machine_desc.specs.Rules.{at_pulse, blocks, controller_fault, counts, device_rule, devices_fault, event_of, events_fault, fields_fault, firmware_fault, firmware_rule, first_fault, forbids, gpe_fault, is_known, machine_rows, queries_fault, queries_of, regions_fault, rule_of, schedule_fault, script_rule, unknown_pulse, workers_fault}
+use Rattle.machine_desc.specs.Rules.{at_pulse, controller_fault, counts, device_rule, devices_fault, events_fault, fields_fault, firmware_fault, firmware_rule, first_fault, forbids, gpe_fault, is_known, machine_rows, queries_fault, regions_fault, rule_of, schedule_fault, script_rule, unknown_pulse, workers_fault}
 use Rattle.machine_desc.proofs.EachItem.{AllNone}
 use Rattle.machine_maker.specs.Maker.{BreaksNoRule, byte_field, controller, each_of, memory, parts_of, pulses_of, quiet_event, script_of}
 use Rattle.machine_maker.proofs.Plain.{each_op, each_pulse, pulses_len, script_len}

@@ -1,11 +1,9 @@
 -- The parts of a machine that is made have the form of a description's.
-use Rattle.std.proofs.Common.{◌≡◌, ℕ, ◌+◌, ◌<◌, List, [], refl, arith}
-use Rattle.handler_script.specs.declared.op.Op.{Op}
-use Rattle.handler_script.specs.declared.op.Op.TheVariants as op
+use Rattle.std.proofs.Common.{ℕ, ◌+◌, [], refl, arith}
 use Rattle.machine_desc.specs.Given.{HasCode, HaveCodes, IsEventPart, IsGiven, IsQueryPart}
 use Rattle.machine_maker.specs.Maker.{code_handler, code_script, each_of, parts_of, quiet_event, script_of}
 use Rattle.machine_maker.proofs.Plain.{each_op}
-use Rattle.machine_maker.proofs.Rows.{Each, all, each_row}
+use Rattle.machine_maker.proofs.Rows.{all, each_row}
 
 no_codes : HaveCodes []
 no_codes = all HasCode [] tt

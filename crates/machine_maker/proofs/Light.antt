@@ -1,6 +1,6 @@
 -- The weight of a machine that is made, by bounds that are far from tight: 16 operations for each step of the size in each of
 -- four scripts, 4 pulses for each step in each of two lists, and a size of at most 64.
-use Rattle.std.proofs.Common.{◌≡◌, ℕ, zero, suc, ◌+◌, ◌*◌, ◌==◌, ◌<◌, ◌≤◌, Bool, true, false, List, [], ◌∷◌, length, map, Some, refl, sym, ap, ◌∙◌, subst, if◌then◌else◌, arith}
+use Rattle.std.proofs.Common.{◌≡◌, ℕ, ◌+◌, ◌*◌, ◌==◌, ◌<◌, ◌≤◌, Bool, true, false, List, [], ◌∷◌, length, map, refl, sym, ap, subst, if◌then◌else◌, arith}
 use Rattle.std.proofs.lemmas.Bool.{eqb-true}
 use Rattle.std.proofs.lemmas.List.Sums.{count_by-le-length}
 use Rattle.std.proofs.Math.Nat.{mul-le-mul_right}
@@ -12,13 +12,11 @@ use Rattle.field_units.specs.Field.{Field}
 use Rattle.handler_script.specs.declared.op.Op.{Op}
 use Rattle.handler_script.specs.declared.op.Op.TheVariants as op
 use Rattle.handler_script.specs.Left.{held_after}
-use Rattle.machine_desc.specs.declared.machine.ListedEvent.{ListedEvent}
-use Rattle.machine_desc.specs.declared.machine.Query.{Query}
 use Rattle.machine_desc.specs.declared.tally.Tally.{Tally}
 use Rattle.machine_desc.specs.declared.tally.Tally.TheVariants as tally
 use Rattle.machine_desc.specs.Machine.{MachineData, described, field_of, listed_of, query_of}
-use Rattle.machine_desc.specs.Weight.{all_moves, calls_of, counted, event_moves, event_size, events_moves, events_size, firmware_moves, firmware_size, in_devices, in_firmware, in_script, one_if, op_moves, op_size, own_claims, pushes, queries_asked, queries_moves, queries_size, query_moves, query_size, runs_of, script_moves, script_size, size_from, weight_by, weight_of}
-use Rattle.machine_maker.specs.Maker.{IsLight, byte_field, code_handler, code_script, controller, each_of, made, memory, parts_of, pulses_of, quiet_event, script_of}
+use Rattle.machine_desc.specs.Weight.{all_moves, calls_of, counted, event_moves, event_size, events_moves, events_size, firmware_moves, firmware_size, in_devices, in_firmware, in_script, one_if, op_moves, op_size, pushes, queries_asked, queries_moves, queries_size, query_moves, query_size, runs_of, script_moves, script_size, size_from, weight_of}
+use Rattle.machine_maker.specs.Maker.{IsLight, byte_field, code_handler, code_script, each_of, made, memory, parts_of, pulses_of, quiet_event, script_of}
 use Rattle.machine_maker.proofs.Plain.{each_op, pulses_len, script_len}
 use Rattle.machine_maker.proofs.Rows.{Each, mapped_sum, row_sum, sum_few, tested}
 

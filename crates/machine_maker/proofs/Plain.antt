@@ -1,11 +1,11 @@
 -- What is true of an addition to one of the fields and of every push of a code is true of each operation of the firmware; and what is
 -- true of the eight events is true of each pulse.
-use Rattle.std.proofs.Common.{◌≡◌, ℕ, zero, suc, ◌+◌, ◌*◌, ◌%◌, ◌<◌, ◌≤◌, Bool, true, false, nat_lt, List, length, if◌then◌else◌, arith}
+use Rattle.std.proofs.Common.{◌≡◌, ℕ, ◌+◌, ◌*◌, ◌%◌, ◌<◌, Bool, true, false, nat_lt, length, if◌then◌else◌, arith}
 use Rattle.acpi_regs.specs.declared.event.Event.{Event}
 use Rattle.acpi_regs.specs.declared.event.Event.TheVariants as event
 use Rattle.handler_script.specs.declared.op.Op.{Op}
 use Rattle.handler_script.specs.declared.op.Op.TheVariants as op
-use Rattle.machine_maker.specs.Maker.{drawn, each_of, op_at, pulse_at, pulses_of, script_of}
+use Rattle.machine_maker.specs.Maker.{drawn, op_at, pulse_at, pulses_of, script_of}
 use Rattle.machine_maker.proofs.Rows.{Each, each_row, row_len}
 
 drawn_is : (P : Op → Type 0) → ((f : ℕ) → f < 16 → P (op.Add f 1)) → ((q : ℕ) → 0 < q → P (op.Push q)) → (d : ℕ) → P (drawn d)
