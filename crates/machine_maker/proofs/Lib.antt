@@ -1,0 +1,5 @@
+mod Faultless
+mod Form
+mod Light
+pub mod Plain
+pub mod Rows
