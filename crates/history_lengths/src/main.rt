@@ -9,7 +9,7 @@
 //! Where the name ends with `, its log` it makes the steps of the schedule alone, then rounds, and prints the whole log as
 //! `log_bytes` gives it, and the references to each listed event behind it.
 //!
-//! No history is longer than the weight (`law_weight` of `machine_core`). The table has machines whose longest history is as
+//! No history is longer than the weight (`law_weight` of `machine_history`). The table has machines whose longest history is as
 //! long as that, so the weight could not be less.
 #![tactic(auto)]
 
