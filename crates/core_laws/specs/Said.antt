@@ -75,7 +75,7 @@ pub record PulsesSaid (lists : List (List Event)) (c : Core) : Type 0 where
   pub collected : (a : Actor) (n : Event) → in_hand (c.phases a) n ≡ true → has_collected (c.phases a) (word_of n) ≡ true
 
 -- A sound core by these sentences: its history is legal, each actor is in a phase of its kind, and they hold. That no code waits
--- for nothing is the same sentence in both, CodesSound.
+-- for nothing, CodesSound of the sound core, follows from them for every machine.
 pub record SoundAsSaid (m : MachineData) (c : Core) : Type 0 where
   pub legal : Legal m c.history
   pub kinds : AreOfKind c.phases

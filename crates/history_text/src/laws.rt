@@ -1,12 +1,15 @@
 //! Laws over the text of a log, for every entry, machine and history. A law is a function with nothing to do, whose contract
 //! says it.
 ghost use Rattle.std.specs.Prelude.{◌≤◌, All};
+ghost use Rattle.acpi_regs.specs.Comparisons.{IsExact};
 ghost use Rattle.machine_desc.specs.Weight.{weight_of};
 ghost use Rattle.machine_reader.specs.Description.{limit};
 ghost use Rattle.history_text.specs.Laws.{NoBadLine, OneBadLine, OneLog, OneMachine, OneText};
 ghost use Rattle.history_text.specs.Lines.{IsReadBack};
 ghost use Rattle.history_text.specs.Named.{IsEntry, OneEntry};
+ghost use Rattle.history_text.specs.contracts.fault.LogFaultPartialEq.TheImpl as log_fault_eq;
 
+use crate::LogFault;
 use crate::typed::law_deed;
 use machine_core::Board;
 use machine_desc::Machine;
@@ -32,6 +35,11 @@ pub fn law_one_log()
 pub fn law_one_text()
     ensures machine { OneMachine }
     ensures pair { OneText }
+{}
+
+/// Two faults are `==` exactly where they are the same.
+pub fn law_equality()
+    ensures { IsExact LogFault (log_fault_eq.ghosts).eq }
 {}
 
 /// The canonical text of each machine whose weight is at most 1,048,576 describes it.

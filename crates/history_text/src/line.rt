@@ -13,7 +13,7 @@ const LINE_LEN: usize = 48;
 /// The text of one line, with its newline.
 #[derive(Clone, Copy, Debug)]
 pub struct LineText {
-    /// The line, and zeros behind it.
+    /// The line, in the first `len` bytes.
     pub bytes: [u8; 48],
     /// How many bytes the line has.
     pub len: u8,

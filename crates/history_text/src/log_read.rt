@@ -37,7 +37,7 @@ struct Body {
 }
 
 /// The log whose text the bytes are. A text tells any machine that can be described and any entries, whether or not the
-/// machine can make them.
+/// machine can make them. There are at most 67,108,864 bytes.
 ///
 /// # Errors
 /// `BadLine` exactly where the bytes are no log's text, with the number of the first bad line. `Memory` where room was

@@ -47,7 +47,11 @@ impl Model for Board {
 }
 
 impl Board {
-    /// A board with an empty journal, and room for every entry that the machine can need.
+    /// A board with an empty journal, and room for every entry that the machine can need. The weight of the machine is at most
+    /// 1,048,576.
+    ///
+    /// # Errors
+    /// `Memory` where room was wanting.
     pub fn new(alloc: Global, machine: Machine) -> Result<Board, Memory>
         requires { weight_of machine ≤ 1048576 }
         ensures { IfOk result (λ board. board ≡ record { machine = machine; entries = [] }) }
@@ -109,7 +113,7 @@ impl Board {
         self.refusal(entry).is_none()
     }
 
-    /// Appends an entry to the journal.
+    /// Appends an entry to the journal, which has to be legal with it: [`Board::can`] tells.
     pub fn apply(&mut self, entry: Entry)
         requires { Legal self.old.machine (self.old.entries ++ entry ∷ []) }
         ensures { self.new ≡ record self.old { entries = self.old.entries ++ entry ∷ [] } }

@@ -1,6 +1,7 @@
 //! Laws over the definitions of this crate, each for every machine and history. A law is a function with nothing
 //! to do, whose contract says it; that of a comparison makes the comparison.
 ghost use Rattle.std.specs.Prelude.{◌≡◌, ◌↔◌, ◌≤◌, Bool, false, List, length, reverse, Some, None, IsTrue};
+ghost use Rattle.acpi_regs.specs.Comparisons.{IsExact};
 ghost use Rattle.acpi_regs.specs.declared.actor.Actor.{Actor};
 ghost use Rattle.acpi_regs.specs.declared.actor.Side.{Side};
 ghost use Rattle.acpi_regs.specs.declared.entry.Cell.{Cell};
@@ -25,8 +26,10 @@ ghost use Rattle.machine_history.specs.Scripts.{plan_left};
 ghost use Rattle.machine_history.specs.Sentences.{ClaimsConsume, CodesInOrder, FrontOfWire, JobsDone, JobsInOrder, LatchesFromPulses, ParksAfterSixteen, RunsAsGiven, StepsByHosts};
 ghost use Rattle.machine_history.specs.Values.{value};
 ghost use Rattle.machine_history.specs.Wire.{Open, burst, due, open_of};
+ghost use Rattle.machine_history.specs.contracts.parts.AccessPartialEq.TheImpl as access_eq;
+ghost use Rattle.machine_history.specs.contracts.parts.JobPartialEq.TheImpl as job_eq;
 
-use crate::LogRule;
+use crate::{Access, Job, LogRule};
 
 /// A complete history is legal.
 pub fn law_complete_legal()
@@ -165,6 +168,12 @@ pub fn law_exclusion()
 /// controller's event since its last step.
 pub fn law_steps()
     ensures { (m : MachineData) (history : List Entry) → Legal m history → StepsByHosts m history }
+{}
+
+/// Jobs, and accesses, are equal, by `==`, exactly where they are the same.
+pub fn law_equality()
+    ensures job { IsExact Job (job_eq.ghosts).eq }
+    ensures access { IsExact Access (access_eq.ghosts).eq }
 {}
 
 /// Conditions of the table of entries are equal, by `==`, exactly where they are the same.

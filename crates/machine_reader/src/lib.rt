@@ -1,10 +1,10 @@
 //! The description of a machine as JSON: read with its first fault, and written as its one canonical text.
 //!
-//! The crate stands on `machine_desc` and the crates below it, on `serde_json` for the tree of a text, and on `itoa` for
-//! numbers. What [`read_machine`] answers is `Describes` of `specs/Description.antt`: the form of a description
-//! (`specs/Shape.antt`, by the walk of `specs/Reading.antt`), then the rules of `machine_desc`, then the weight. What
-//! [`write_machine`] gives is `canonical` of `specs/Canonical.antt`, the JSON text of a value; it is written straight into
-//! its bytes. [`laws`] has that each canonical text is read as its machine, and that no two machines have one.
+//! The crate stands on `machine_desc` and the crates below it, on `serde_json` for the tree of a text, on `json` for what a
+//! JSON text is, and on `itoa` for numbers. What [`read_machine`] answers is `Describes` of `specs/Description.antt`: the form
+//! of a description (`specs/Shape.antt`, by the walk of `specs/Reading.antt`), then the rules of `machine_desc`, then the
+//! weight. What [`write_machine`] gives is `canonical` of `specs/Canonical.antt`, the JSON text of a value; it is written
+//! straight into its bytes. [`laws`] has that each canonical text is read as its machine, and that no two machines have one.
 #![tactic(auto)]
 
 mod bytes;

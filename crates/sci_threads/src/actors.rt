@@ -47,7 +47,8 @@ impl AnyActor {
     }
 
     /// One step of the actor over a world of one thread: exactly what it is given, from every core that the world and its
-    /// phase stand for, and the outcome that its own kind tells. Each pin that is set has fewer latches than pulses in the device lists.
+    /// phase stand for, and the outcome that its own kind tells. The caller sees to it that each pin that is set has fewer latches
+    /// than pulses in the device lists.
     pub fn step(&mut self, machine: &Machine, world: &mut SerialWorld) -> StepOutcome
         requires machine { world.old.board.machine ≡ machine.now }
         requires latchable { AreLatchable machine.now world.old.board.entries (pins_of world.old) }
