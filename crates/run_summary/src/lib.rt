@@ -1,0 +1,4 @@
+//! The summary of a run.
+#![tactic(auto)]
+
+pub mod laws;
