@@ -1,7 +1,7 @@
 use Rattle.std.proofs.Common.{refl}
-use Rattle.run_summary.proofs.Exact.{counted_all}
+use Rattle.run_summary.proofs.Firmware as Firmware
 use Rattle.run_summary.proofs.Plans.{script_counts}
 use Rattle.run_summary.proofs.laws.law_try.Goals as goal
 
 pub returns : goal.returns
-returns c = let f = counted_all in let g = script_counts in refl
+returns c = let f = Firmware.all_counted in let g = script_counts in let h = Firmware.firmware_counted in record { a = refl }
