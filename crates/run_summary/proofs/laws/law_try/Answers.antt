@@ -1,7 +1,6 @@
 use Rattle.std.proofs.Common.{refl}
-use Rattle.run_summary.proofs.Firmware as Firmware
-use Rattle.run_summary.proofs.Plans.{script_counts}
+use Rattle.run_summary.proofs.Counts.{all_adds, all_notifies, all_runs}
 use Rattle.run_summary.proofs.laws.law_try.Goals as goal
 
 pub returns : goal.returns
-returns c = let f = Firmware.all_counted in let g = script_counts in let h = Firmware.firmware_counted in record { a = refl }
+returns c = let f = all_adds in let g = all_runs in let h = all_notifies in record { a = refl }
