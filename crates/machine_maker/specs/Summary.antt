@@ -45,11 +45,15 @@ digit_text n = if nat_lt n 10 then 48 + n else 55 + n
 abbrev pub spaced_byte : ℕ → List ℕ
 spaced_byte b = 32 ∷ digit_text (b / 16) ∷ digit_text (b % 16) ∷ []
 
+-- a word, with the spaces round it, and a number in decimal
+abbrev pub labelled : List ℕ → ℕ → List ℕ
+labelled label n = label ++ decimal n
+
 abbrev pub weight_line : (number size weight : ℕ) → List ℕ
-weight_line number size weight = codes "make " ++ (decimal number ++ (codes " " ++ (decimal size ++ (codes " weight " ++ (decimal weight ++ codes "\n")))))
+weight_line number size weight = labelled (codes "make ") number ++ (labelled (codes " ") size ++ (labelled (codes " weight ") weight ++ codes "\n"))
 
 abbrev pub counts_line : (adds runs notifies : ℕ) → List ℕ
-counts_line adds runs notifies = codes "adds " ++ (decimal adds ++ (codes " runs " ++ (decimal runs ++ (codes " notifies " ++ (decimal notifies ++ codes "\n")))))
+counts_line adds runs notifies = labelled (codes "adds ") adds ++ (labelled (codes " runs ") runs ++ (labelled (codes " notifies ") notifies ++ codes "\n"))
 
 abbrev pub cells_line : List ℕ → List ℕ
 cells_line cells = codes "cells" ++ (flat_map spaced_byte cells ++ codes "\n")

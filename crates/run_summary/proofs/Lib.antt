@@ -5,3 +5,4 @@ pub mod Firmware
 pub mod Plans
 pub mod Priced
 pub mod Pushed
+pub mod Walk
