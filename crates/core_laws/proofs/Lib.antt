@@ -1,3 +1,7 @@
+pub mod AddFields
+pub mod AddLedger
+pub mod AddPlans
+pub mod AddTotals
 pub mod Asking
 pub mod Deadlock
 pub mod Giving

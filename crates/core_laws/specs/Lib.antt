@@ -1,3 +1,4 @@
+pub mod Adds
 pub mod Codes
 pub mod CoreSteps
 pub mod Gives

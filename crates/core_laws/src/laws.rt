@@ -20,6 +20,7 @@ ghost use Rattle.machine_history.specs.Complete.{Complete};
 ghost use Rattle.machine_history.specs.Played.{IsQuiet, Played, Settles, steps, stepped};
 ghost use Rattle.machine_history.specs.Steps.{gives};
 ghost use Rattle.machine_history.specs.Wire.{given};
+ghost use Rattle.core_laws.specs.Adds.{EveryOp, SumsAdds, is_no_skip};
 ghost use Rattle.core_laws.specs.Codes.{IsFront, started_codes};
 ghost use Rattle.core_laws.specs.CoreSteps.{AllHappen, EachLegal, MayHappen, after, happens};
 ghost use Rattle.core_laws.specs.Gives.{IsEvents, NobodyHolds};
@@ -93,4 +94,12 @@ pub fn law_rounds()
     ensures round { (m : MachineData) (c : Core) → IsMachine m → Sound m c → NobodyHolds c → IsQuiet m (actors_of m) c ⊎ (to_come m (steps m (actors_of m) c) < to_come m c) }
     ensures settles { (m : MachineData) (c : Core) → IsMachine m → Sound m c → NobodyHolds c → (d : Core) × (s : Settles m (actors_of m) c d) × (s.0 ≤ to_come m c) }
     ensures once { (m : MachineData) (names : List Actor) (c d e : Core) → Settles m names c d → Settles m names c e → d ≡ e }
+{}
+
+/// In a complete history of a machine whose scripts have no skips, a cell of memory ends as its first byte and all that was added
+/// to it, modulo 256, where one field alone touches it, which is the cell's eight bits and under the Global Lock, and where
+/// operations do nothing to that field but add. What was added is what the firmware's scripts add, and what the script of a job
+/// adds, as often as such a job was started. So no order of the actors' steps changes it.
+pub fn law_adds()
+    ensures { (m : MachineData) (history : List Entry) → IsMachine m → EveryOp is_no_skip m → Complete m history → SumsAdds m history }
 {}
