@@ -1,5 +1,5 @@
 -- What a complete history of a machine that is made is counted for is what its operations come to.
-use Rattle.std.proofs.Common.{ℕ, ◌+◌, ◌<◌, ◌≡◌, ◌⊎◌, inl, inr, Bool, true, false, List, [], ◌∷◌, reverse, slice_get, sum_by, Option, Some, None, refl, sym, ap, ◌∙◌, subst, arith}
+use Rattle.std.proofs.Common.{ℕ, ◌+◌, ◌<◌, ◌≡◌, ◌⊎◌, inl, inr, true, false, List, [], ◌∷◌, length, reverse, slice_get, sum_by, Option, Some, None, refl, sym, ap, ◌∙◌, subst, arith}
 use Rattle.acpi_regs.specs.declared.actor.Actor.{Actor}
 use Rattle.acpi_regs.specs.declared.actor.Actor.TheVariants as actor
 use Rattle.acpi_regs.specs.declared.entry.Deed.{Deed}
@@ -15,8 +15,8 @@ use Rattle.machine_history.specs.declared.parts.Job.TheVariants as job
 use Rattle.machine_history.specs.Complete.{Complete}
 use Rattle.machine_history.specs.Jobs.{jobs}
 use Rattle.machine_history.specs.Legal.{Allowed, is_firmware}
-use Rattle.machine_history.specs.Machine.{code_script, event_script}
-use Rattle.machine_history.specs.Scripts.{script_of}
+use Rattle.machine_history.specs.Machine.{code_script}
+use Rattle.machine_history.specs.Sentences.{codes_of}
 use Rattle.machine_history.proofs.Actors.{ByFirmware}
 use Rattle.machine_history.proofs.Adding.{pushes_by}
 use Rattle.machine_history.proofs.Codes.{code_price}
@@ -29,14 +29,13 @@ use Rattle.machine_history.proofs.Totals.{Count, sum_of, total}
 use Rattle.machine_maker.specs.Maker as maker
 use Rattle.machine_maker.specs.Maker.{made}
 use Rattle.machine_maker.specs.Summary.{one_add, one_push, over_firmware}
-use Rattle.machine_maker.proofs.Rows.{Each}
 use Rattle.run_summary.specs.Told.{adds, adds_by, is_code, notifies, notifies_by, runs, runs_by}
-use Rattle.run_summary.proofs.Drawn.{IsDrawn, each_drawn, each_script, four-same, handler_notifies, handler_skips, no_notifies, no_skips, pushes_sum, quiet, writes_sum}
+use Rattle.run_summary.proofs.Drawn.{each_drawn, each_script, four-same, handler_notifies, handler_skips, no_notifies, no_skips, pushes_sum, quiet, writes_sum}
 use Rattle.run_summary.proofs.Exact.{Counts, JobsCount}
 use Rattle.run_summary.proofs.Firmware.{IsPriceOf, ScriptsCount, all_counted, all_ended, firmware_counted}
 use Rattle.run_summary.proofs.Plans.{is, script_counts}
 use Rattle.run_summary.proofs.Priced.{notifies_ops, notifies_price, notify_of, prompt_notifies, prompt_pushes, prompt_writes, pushes_ops, uniform_notifies, uniform_writes, writes_price}
-use Rattle.run_summary.proofs.Pushed.{codes_started}
+use Rattle.run_summary.proofs.Pushed.{codes_started, jobs_worth, starts_worth}
 
 -- ---- the counts as totals
 
@@ -108,13 +107,17 @@ pushes_count number size g k = each_script (λ ops. Counts (pushes_price g) (pla
     (λ k. is (pushes_price g) (plan (made number size).fields (maker.script_of number size k)) _ _ (pushes_ops g (made number size).fields false (maker.script_of number size k))
     (script_counts (pushes_price g) (made number size).fields (maker.script_of number size k) (uniform_pushes g) (no_skips number size (maker.script_of number size k) (each_drawn number size k)))) k
 
--- the starts of codes are worth what the pushes of the scripts are
+-- what the pushes of the scripts are worth
+pub all_pushed : (number size : ℕ) (g : ℕ → ℕ) (history : List Entry) → Complete (made number size) history
+    → total (charged (pushes_price g)) (reverse history) ≡ sum_of (sum_of (push_of g)) (made number size).firmware
+all_pushed number size g history complete =
+    firmware_counted (pushes_price g) (charged (pushes_price g)) (sum_of (push_of g)) (made number size) (prompt_pushes g) (λ past k d. refl) (pushes_by (made number size) g) (pushes_count number size g) (reverse history) complete.legal (all_ended (made number size) history complete)
+
+-- the starts of codes are worth as much
 pub all_codes : (number size : ℕ) (g : ℕ → ℕ) (history : List Entry) → IsMachine (made number size) → Complete (made number size) history
     → total (started (code_price g) (made number size)) (reverse history) ≡ sum_of (sum_of (push_of g)) (made number size).firmware
 all_codes number size g history ok complete =
-    let started_are = codes_started g (made number size) ok (reverse history) complete.legal complete.rest in
-    let counted = firmware_counted (pushes_price g) (charged (pushes_price g)) (sum_of (push_of g)) (made number size) (prompt_pushes g) (λ past k d. refl) (pushes_by (made number size) g) (pushes_count number size g) (reverse history) complete.legal (all_ended (made number size) history complete) in
-    started_are ∙ counted
+    codes_started g (made number size) ok (reverse history) complete.legal complete.rest ∙ all_pushed number size g history complete
 
 -- where each of the eight codes is worth 1
 pub codes_once : (number size : ℕ) (g : ℕ → ℕ) (history : List Entry) → ((q : ℕ) → q < 8 → g (1 + q) ≡ 1) → IsMachine (made number size) → Complete (made number size) history
@@ -126,6 +129,20 @@ codes_once number size g history one ok complete =
 
 pub all_runs : (number size : ℕ) (history : List Entry) → IsMachine (made number size) → Complete (made number size) history → runs (made number size) (reverse history) ≡ over_firmware one_push (made number size)
 all_runs number size history ok complete = runs-is (made number size) (reverse history) ∙ codes_once number size once history (λ q less. refl) ok complete
+
+sum_once : (xs : List ℕ) → sum_of once xs ≡ length xs
+sum_once [] = refl
+sum_once (x ∷ xs) = let rest = sum_once xs in omega arith
+
+-- the jobs of codes, of which each was started
+pub all_made : (number size : ℕ) (history : List Entry) → IsMachine (made number size) → Complete (made number size) history → length (codes_of (jobs (made number size) (reverse history))) ≡ over_firmware one_push (made number size)
+all_made number size history ok complete =
+    let past = reverse history in
+    let long = sum_once (codes_of (jobs (made number size) past)) in
+    let worth = jobs_worth once (made number size) past in
+    let all = starts_worth once (made number size) past complete.legal complete.rest.all_started in
+    let codes = codes_once number size once history (λ q less. refl) ok complete in
+    omega arith
 
 -- ---- notifies
 

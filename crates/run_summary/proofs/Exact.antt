@@ -1,5 +1,5 @@
 -- What the entries of an actor are charged for, exactly: where every plan has one price, whatever its acts are answered.
-use Rattle.std.proofs.Common.{ℕ, ◌+◌, ◌≡◌, Bool, true, false, List, [], ◌∷◌, slice_get, unwrap_or, Option, Some, None, refl, sym, ap, ◌∙◌, subst, arith}
+use Rattle.std.proofs.Common.{ℕ, ◌+◌, ◌≡◌, Bool, true, false, List, [], ◌∷◌, slice_get, unwrap_or, Option, Some, None, refl, ap, subst, arith}
 use Rattle.acpi_regs.specs.declared.actor.Actor.{Actor}
 use Rattle.acpi_regs.specs.declared.entry.Deed.{Deed}
 use Rattle.acpi_regs.specs.declared.entry.Deed.TheVariants as deed
@@ -11,7 +11,7 @@ use Rattle.handler_script.specs.declared.act.Act.TheVariants as act
 use Rattle.handler_script.specs.Plan.{Plan, Do, End, next_act, plan_after}
 use Rattle.machine_desc.specs.Machine.{MachineData}
 use Rattle.machine_history.specs.declared.parts.Job.{Job}
-use Rattle.machine_history.specs.Jobs.{jobs, running}
+use Rattle.machine_history.specs.Jobs.{jobs}
 use Rattle.machine_history.specs.Legal.{Allowed, LegalPast, asked_by, is_worker}
 use Rattle.machine_history.specs.Scripts.{first_plan, job_plan, left_after, next_of, plan_left}
 use Rattle.machine_history.specs.Wire.{open_of}
@@ -20,7 +20,7 @@ use Rattle.machine_history.proofs.Known.{hold, is_none-none, same_actor-true, sa
 use Rattle.machine_history.proofs.Paying.{plain_act, start_worth, started}
 use Rattle.machine_history.proofs.Prices.{charge, charged}
 use Rattle.machine_history.proofs.Stages.{Follows, follows_own, is_trying_at, stage}
-use Rattle.machine_history.proofs.Totals.{own, total, when}
+use Rattle.machine_history.proofs.Totals.{own, total}
 
 -- ---- plans
 

@@ -1,21 +1,19 @@
 -- What the entries of a history at rest are charged for, at prices at which each plan has one price.
-use Rattle.std.proofs.Common.{ℕ, zero, suc, ◌+◌, ◌<◌, ◌≤◌, ◌≡◌, ◌⊎◌, inl, inr, Bool, true, false, List, [], ◌∷◌, ◌++◌, length, drop, reverse, filter_map, slice_get, unwrap_or, Option, Some, None, if◌then◌else◌, refl, sym, ap, ◌∙◌, subst, arith}
+use Rattle.std.proofs.Common.{ℕ, zero, suc, ◌+◌, ◌<◌, ◌≡◌, ◌⊎◌, inl, inr, true, List, [], ◌∷◌, length, reverse, Option, if◌then◌else◌, refl, subst, arith}
 use Rattle.std.proofs.lemmas.Bool.{lt-ltb}
-use Rattle.std.proofs.lemmas.List.{append-nil}
 use Rattle.acpi_regs.specs.declared.actor.Actor.{Actor}
 use Rattle.acpi_regs.specs.declared.actor.Actor.TheVariants as actor
 use Rattle.acpi_regs.specs.declared.entry.Deed.{Deed}
 use Rattle.acpi_regs.specs.declared.entry.Deed.TheVariants as deed
 use Rattle.acpi_regs.specs.declared.entry.Entry.{Entry}
-use Rattle.acpi_regs.specs.Actor.{same_actor}
 use Rattle.handler_script.specs.declared.act.Act.{Act}
 use Rattle.handler_script.specs.declared.op.Op.{Op}
 use Rattle.handler_script.specs.Plan.{End, plan}
 use Rattle.machine_desc.specs.Machine.{MachineData}
 use Rattle.machine_history.specs.declared.parts.Job.{Job}
 use Rattle.machine_history.specs.Complete.{Complete}
-use Rattle.machine_history.specs.Legal.{Allowed, LegalPast, is_firmware, is_worker, runs_scripts}
-use Rattle.machine_history.specs.Scripts.{first_plan, plan_left, script_of}
+use Rattle.machine_history.specs.Legal.{Allowed, LegalPast, is_worker, runs_scripts}
+use Rattle.machine_history.specs.Scripts.{plan_left, script_of}
 use Rattle.machine_history.proofs.Actors.{ByFirmware, ByScripts, over, over-plus, over_within, upto, within_firmware, within_over}
 use Rattle.machine_history.proofs.Adding.{charged_by, over_firsts}
 use Rattle.machine_history.proofs.JobCounts.{firmware_starts}

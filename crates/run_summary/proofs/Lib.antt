@@ -1,7 +1,9 @@
+pub mod Cells
 pub mod Counts
 pub mod Drawn
 pub mod Exact
 pub mod Firmware
+pub mod Lines
 pub mod Plans
 pub mod Priced
 pub mod Pushed

@@ -1,5 +1,5 @@
 -- A script that skips nothing costs exactly what its operations do, at prices that do not depend on the place or the byte of an access.
-use Rattle.std.proofs.Common.{◌≡◌, ℕ, zero, suc, ◌+◌, ◌*◌, ◌%◌, ◌^◌, Bool, true, false, cond, List, [], ◌∷◌, Option, Some, None, slice_get, subst, refl, sym, arith}
+use Rattle.std.proofs.Common.{◌≡◌, ℕ, zero, suc, ◌+◌, ◌*◌, ◌%◌, ◌^◌, Bool, true, false, cond, List, [], ◌∷◌, Option, Some, None, slice_get, subst, refl, arith}
 use Rattle.std.specs.List.{list_all}
 use Rattle.std.proofs.Math.Nat.{add-mul, one-mul, suc-mul, zero-mul}
 use Rattle.std.proofs.lemmas.Bool.{and_parts}
@@ -15,12 +15,9 @@ use Rattle.handler_script.specs.declared.op.Op.TheVariants as op
 use Rattle.handler_script.specs.Costs.{IsUniform, burst_cost, field_cost, lock_cost, op_cost, ops_cost, partials_from}
 use Rattle.handler_script.specs.Left.{held_after}
 use Rattle.handler_script.specs.Parts.{access_needs, bursts, read_act, read_in, reads_first, takes_lock, write_act, write_in}
-use Rattle.handler_script.specs.Plan.{Plan, Do, End, closed, old_byte, on_field, plan, plan_from, plan_op, read_from, unlocked, where_wanted, write_from}
+use Rattle.handler_script.specs.Plan.{Plan, Do, closed, old_byte, on_field, plan, plan_from, plan_op, read_from, unlocked, where_wanted, write_from}
+use Rattle.core_laws.specs.Adds.{is_no_skip}
 use Rattle.run_summary.proofs.Exact.{Counts}
-
-abbrev pub is_no_skip : Op → Bool
-is_no_skip (op.Skip v k) = false
-is_no_skip _ = true
 
 -- the number may be written otherwise
 pub is : (price : Act → ℕ) (p : Plan) (n m : ℕ) → n ≡ m → Counts price p n → Counts price p m

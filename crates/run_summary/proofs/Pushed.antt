@@ -1,5 +1,5 @@
 -- In a history at rest the starts of code jobs are worth what the pushes are, code by code.
-use Rattle.std.proofs.Common.{ℕ, zero, suc, ◌+◌, ◌<◌, ◌≤◌, ◌≡◌, List, [], ◌∷◌, ◌++◌, length, drop, reverse, filter_map, Option, Some, None, refl, sym, ap, ◌∙◌, arith}
+use Rattle.std.proofs.Common.{ℕ, ◌+◌, ◌≡◌, List, [], ◌∷◌, ◌++◌, length, reverse, filter_map, Option, Some, None, refl, ap, ◌∙◌, arith}
 use Rattle.std.proofs.lemmas.List.{append-nil}
 use Rattle.acpi_regs.specs.declared.actor.Actor.{Actor}
 use Rattle.acpi_regs.specs.declared.entry.Deed.{Deed}
@@ -13,7 +13,7 @@ use Rattle.machine_history.specs.Complete.{Rest}
 use Rattle.machine_history.specs.Jobs.{jobs, made, starts}
 use Rattle.machine_history.specs.Legal.{LegalPast}
 use Rattle.machine_history.specs.Sentences.{codes_of, out_in, push_by, pushed_in}
-use Rattle.machine_history.specs.Wire.{codes, given, open_of}
+use Rattle.machine_history.specs.Wire.{given}
 use Rattle.machine_history.proofs.CodeOrder.{codes-grown, job_codes, pushed-push, runs_of_past, same_codes}
 use Rattle.machine_history.proofs.Codes.{code_jobs_in, code_price}
 use Rattle.machine_history.proofs.JobCounts.{made_in, made_worth, started_is, waits}

@@ -1,5 +1,5 @@
 -- The walk over the entries of a board, oldest first, against the counts of its past.
-use Rattle.std.proofs.Common.{ℕ, ◌+◌, ◌≤◌, ◌≡◌, ◌==◌, ◌&&◌, not, Bool, true, false, List, [], ◌∷◌, ◌++◌, length, reverse, take, Option, Some, None, slice_get, if◌then◌else◌, refl, sym, ap, ◌∙◌, arith}
+use Rattle.std.proofs.Common.{ℕ, ◌+◌, ◌≤◌, ◌≡◌, ◌==◌, ◌&&◌, not, Bool, true, false, List, [], ◌∷◌, length, reverse, take, Option, Some, None, slice_get, if◌then◌else◌, refl, sym, ap, ◌∙◌, arith}
 use Rattle.std.proofs.lemmas.List.{reverse-append, take_all}
 use Rattle.acpi_regs.specs.declared.actor.Actor.{Actor}
 use Rattle.acpi_regs.specs.declared.entry.Deed.{Deed}
@@ -8,9 +8,8 @@ use Rattle.acpi_regs.specs.declared.entry.Effect.TheVariants as effect
 use Rattle.acpi_regs.specs.declared.entry.Entry.{Entry}
 use Rattle.acpi_regs.specs.History.{past_of}
 use Rattle.machine_desc.specs.Machine.{MachineData}
-use Rattle.machine_history.specs.declared.parts.Job.{Job}
 use Rattle.machine_history.specs.declared.parts.Job.TheVariants as job
-use Rattle.machine_history.specs.Jobs.{jobs, made, made_by}
+use Rattle.machine_history.specs.Jobs.{jobs, made_by}
 use Rattle.machine_history.specs.Sentences.{codes_of}
 use Rattle.machine_history.specs.Wire.{Open, asks_code, codes, moved, open_after, open_of, put_out}
 use Rattle.machine_history.proofs.Codes.{claim_code, code_jobs_in, code_price}

@@ -1,5 +1,5 @@
 -- What a history is counted for in the summary of a run.
-use Rattle.std.specs.Prelude.{ℕ, ◌+◌, ◌==◌, ◌&&◌, not, Bool, true, false, List, [], ◌∷◌, Option, Some, None, slice_get, if◌then◌else◌}
+use Rattle.std.specs.Prelude.{ℕ, ◌+◌, ◌==◌, ◌&&◌, not, Bool, false, List, [], ◌∷◌, Option, Some, slice_get, if◌then◌else◌}
 use Rattle.acpi_regs.specs.declared.actor.Actor.{Actor}
 use Rattle.acpi_regs.specs.declared.actor.Actor.TheVariants as actor
 use Rattle.acpi_regs.specs.declared.entry.Cell.{Cell}
@@ -7,12 +7,14 @@ use Rattle.acpi_regs.specs.declared.entry.Deed.{Deed}
 use Rattle.acpi_regs.specs.declared.entry.Deed.TheVariants as deed
 use Rattle.acpi_regs.specs.declared.entry.Entry.{Entry}
 use Rattle.machine_desc.specs.Machine.{MachineData}
+use Rattle.machine_desc.specs.Weight.{weight_of}
 use Rattle.machine_history.specs.declared.parts.Job.{Job}
 use Rattle.machine_history.specs.declared.parts.Job.TheVariants as job
 use Rattle.machine_history.specs.Jobs.{jobs}
 use Rattle.machine_history.specs.Values.{value}
 use Rattle.machine_history.specs.Wire.{is_query}
 use Rattle.machine_maker.specs.Maker.{each_of}
+use Rattle.machine_maker.specs.Summary.{summary_text}
 use Rattle.run_summary.specs.declared.tally.Tally.{Tally}
 
 -- ---- additions: the bytes that firmware writes
@@ -56,6 +58,11 @@ cell_of k = record { region = 0; offset = k }
 
 abbrev pub bytes_of : MachineData → List Entry → ℕ → List ℕ
 bytes_of m past count = each_of count (λ k. value m past (cell_of k))
+
+-- ---- the summary that a history tells, the newest entry first
+
+abbrev pub told : (number size : ℕ) → MachineData → List Entry → List ℕ
+told number size m past = summary_text number size (weight_of m) (adds past) (runs m past) (notifies past) (bytes_of m past 16)
 
 -- ---- for private clauses: a walk over the entries
 

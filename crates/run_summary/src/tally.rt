@@ -92,13 +92,7 @@ fn codes_by(asks: bool, deed: Deed) -> u32
     ensures few { result ≤ 1 }
 {
     match deed {
-        Deed::Take(Some(code)) => {
-            if asks && code != 0 {
-                1
-            } else {
-                0
-            }
-        }
+        Deed::Take(Some(code)) => { if asks && code != 0 { 1 } else { 0 } }
         _ => 0,
     }
 }

@@ -1,5 +1,4 @@
-use Rattle.std.proofs.Common.{◌≡◌, ◌+◌, ◌≤◌, ℕ, length, reverse, sym, ap, ◌∙◌, arith}
-use Rattle.acpi_regs.specs.History.{past_of}
+use Rattle.std.proofs.Common.{◌≤◌, length, reverse, sym, ap, ◌∙◌, arith}
 use Rattle.run_summary.specs.declared.tally.Tally.{Tally}
 use Rattle.run_summary.specs.Told.{tally_after, tally_of}
 use Rattle.run_summary.proofs.Walk.{past-all, past-next, tally-adds, tally-codes, tally-notifies}
@@ -8,8 +7,8 @@ use Rattle.run_summary.proofs.tally.count_entries.Goals as goal
 pub loop-i-preserved : goal.loop-i-preserved
 loop-i-preserved c = record {
   is = c.after-tally.ensures.is
-    ∙ (ap (tally_after c.entry.result.actor c.entry.result.deed) c.loop-i.invariant.is
-    ∙ sym (ap tally_of (past-next c.args.board.now.entries c.loop-i.i c.entry.result c.entry.ensures)));
+      ∙ (ap (tally_after c.entry.result.actor c.entry.result.deed) c.loop-i.invariant.is
+      ∙ sym (ap tally_of (past-next c.args.board.now.entries c.loop-i.i c.entry.result c.entry.ensures)));
   few_adds = (let more = c.after-tally.ensures.few_adds in let few = c.loop-i.invariant.few_adds in omega arith);
   few_codes = (let more = c.after-tally.ensures.few_codes in let few = c.loop-i.invariant.few_codes in omega arith);
   few_notifies = (let more = c.after-tally.ensures.few_notifies in let few = c.loop-i.invariant.few_notifies in omega arith);
