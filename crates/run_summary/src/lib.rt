@@ -9,6 +9,8 @@
 pub mod laws;
 mod summary;
 mod tally;
+#[cfg(test)]
+mod tests;
 mod text;
 
 pub use summary::summarize;
