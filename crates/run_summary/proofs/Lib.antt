@@ -1,0 +1,10 @@
+pub mod Cells
+pub mod Counts
+pub mod Drawn
+pub mod Exact
+pub mod Firmware
+pub mod Lines
+pub mod Plans
+pub mod Priced
+pub mod Pushed
+pub mod Walk
