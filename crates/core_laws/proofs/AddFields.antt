@@ -52,7 +52,7 @@ replaced_byte field offset old value h small =
     let width = h.width in
     sym (from_bits-is 8 (λ j. cond (has_bit field (bit_of_byte field 0 + j)) (bit_at value (bit_of_byte field 0 + j - field.bit)) (outside field.update (bit_at old j))) value small
     (λ j less.
-        let place : j ≡ bit_of_byte field 0 + j - field.bit = omega arith in
-        at_true (has_bit field (bit_of_byte field 0 + j)) (bit_at value (bit_of_byte field 0 + j - field.bit)) (outside field.update (bit_at old j)) (bit_at value j)
-        (and_from (nat_le field.bit (bit_of_byte field 0 + j)) (nat_lt (bit_of_byte field 0 + j) (field.bit + field.width)) (le-leb field.bit (bit_of_byte field 0 + j) (omega arith)) (lt-ltb (bit_of_byte field 0 + j) (field.bit + field.width) (omega arith)))
-        (ap (bit_at value) place)))
+    let place : j ≡ bit_of_byte field 0 + j - field.bit = omega arith in
+    at_true (has_bit field (bit_of_byte field 0 + j)) (bit_at value (bit_of_byte field 0 + j - field.bit)) (outside field.update (bit_at old j)) (bit_at value j)
+    (and_from (nat_le field.bit (bit_of_byte field 0 + j)) (nat_lt (bit_of_byte field 0 + j) (field.bit + field.width)) (le-leb field.bit (bit_of_byte field 0 + j) (omega arith)) (lt-ltb (bit_of_byte field 0 + j) (field.bit + field.width) (omega arith)))
+    (ap (bit_at value) place)))

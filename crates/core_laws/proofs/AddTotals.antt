@@ -212,8 +212,8 @@ pub sums_adds : (m : MachineData) (history : List Entry) → IsMachine m → Eve
 sums_adds m history is plain complete c f h =
     let past = reverse history in
     let all = all_ended m c (first_adds m f) (job_worth m f) is (sums m c f is plain h) past complete.legal
-        (λ k below. (kept m past (actor.Worker k) complete.legal).2 (lt-ltb k m.workers below) (complete.rest.none_runs (actor.Worker k)))
-        complete.ended complete.rest.all_started in
+    (λ k below. (kept m past (actor.Worker k) complete.legal).2 (lt-ltb k m.workers below) (complete.rest.none_runs (actor.Worker k)))
+    complete.ended complete.rest.all_started in
     let workers = upto-zero m.workers in
     let firmware = upto_list (adds f) [] m.firmware in
     let scripts = sums-same (adds f) m.firmware in

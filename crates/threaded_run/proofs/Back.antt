@@ -1,7 +1,7 @@
 -- What the seats of a race bring back into the root.
-use Rattle.std.proofs.Common.{◌≡◌, ℕ, zero, suc, ◌+◌, ◌<◌, ◌≤◌, ◌⊎◌, inl, inr, ◌&&◌, ◌||◌, not, Bool, true, false, cond, List, [], ◌∷◌, ◌++◌, append-nil, length, map, get_or, Option, Some, None, is_none, refl, sym, ap, subst, ◌∙◌, arith}
+use Rattle.std.proofs.Common.{◌≡◌, ℕ, zero, suc, ◌+◌, ◌<◌, ◌≤◌, ◌⊎◌, inl, inr, not, true, false, cond, List, [], ◌∷◌, ◌++◌, append-nil, length, map, get_or, Some, None, is_none, refl, sym, ap, subst, ◌∙◌, arith}
 use Rattle.std.proofs.lemmas.Bool.{and_from, and_parts, false_from_ne_true, not-true, or_parts}
-use Rattle.std.proofs.lemmas.List.Elements.{All-cons, All-head, All-nil, All-tail}
+use Rattle.std.proofs.lemmas.List.Elements.{All-cons, All-nil}
 use Rattle.std.proofs.lemmas.List.Sums.{sum_by-cons}
 use Rattle.std.specs.List.{All}
 use Rattle.std.specs.Prelude.{slice_get, sum_by, unwrap_or}
@@ -11,16 +11,14 @@ use Rattle.acpi_regs.specs.Actor.{same_actor}
 use Rattle.acpi_regs.specs.Phases.{first_phase}
 use Rattle.acpi_regs.proofs.LockActors.{actor_self, actor_true}
 use Rattle.atomic_table.specs.Seated.{TableId}
-use Rattle.lock_table.specs.declared.view.Occupant.{Occupant}
 use Rattle.lock_table.specs.declared.view.Occupant.TheVariants as who
 use Rattle.lock_table.specs.declared.view.Part.{Part}
 use Rattle.lock_table.specs.declared.view.View.{View}
 use Rattle.lock_table.specs.Calls.{Pass}
 use Rattle.lock_table.specs.Roots.{HasAllBut, HasFreshBut, is_among}
-use Rattle.lock_table.specs.Views.{ForOne, find, first_kept, fresh, is_known, phase_of, pulses_of, root_parts}
+use Rattle.lock_table.specs.Views.{ForOne, find, first_kept, fresh, phase_of, pulses_of, root_parts}
 use Rattle.lock_table.proofs.OneStep.{for_one}
 use Rattle.lock_table.proofs.Rooting.{fresh_has, has_all}
-use Rattle.fw_actors.specs.Hardware.{next_pulse}
 use Rattle.machine_desc.specs.Actors.{actors_of}
 use Rattle.machine_desc.specs.Machine.{MachineData}
 use Rattle.machine_desc.specs.Weight.{weight_of}

@@ -1,20 +1,18 @@
 -- The core for which a closed table stands, with the actors that are back.
-use Rattle.std.proofs.Common.{◌≡◌, ℕ, ◌+◌, ◌<◌, ◌≤◌, ◌==◌, ◌||◌, ◌&&◌, Bool, true, false, nat_lt, List, [], ◌∷◌, ◌++◌, append_assoc, reverse, map, Option, Some, None, if◌then◌else◌, refl, sym, ap, subst, ◌∙◌, arith, rules}
+use Rattle.std.proofs.Common.{◌≡◌, ℕ, ◌<◌, ◌≤◌, ◌&&◌, Bool, true, false, nat_lt, List, [], ◌∷◌, map, Some, if◌then◌else◌, refl, sym, ap, subst, ◌∙◌, arith}
 use Rattle.std.proofs.lemmas.Bool.{false_from_ne_true, lt-ltb, ltb-true, or_from}
 use Rattle.std.proofs.lemmas.List.Elements.{All-head, All-tail}
 use Rattle.std.specs.List.{All}
 use Rattle.acpi_regs.specs.declared.actor.Actor.{Actor}
 use Rattle.acpi_regs.specs.declared.actor.Actor.TheVariants as actor
-use Rattle.acpi_regs.specs.declared.entry.Entry.{Entry}
 use Rattle.acpi_regs.specs.declared.event.Event.{Event}
 use Rattle.acpi_regs.specs.Actor.{same_actor}
 use Rattle.acpi_regs.specs.Core.{Core, all_events}
 use Rattle.acpi_regs.specs.CoreEvents.{is_holding, past_in}
 use Rattle.acpi_regs.specs.CoreSound.{CoreSound, is_word}
 use Rattle.acpi_regs.specs.Event.{event_rank}
-use Rattle.acpi_regs.specs.Phases.{Phase, first_phase}
-use Rattle.acpi_regs.proofs.LockActors.{actor_self, actor_true}
-use Rattle.core_laws.specs.Gives.{NobodyHolds}
+use Rattle.acpi_regs.specs.Phases.{first_phase}
+use Rattle.acpi_regs.proofs.LockActors.{actor_true}
 use Rattle.core_laws.specs.Sound.{Sound}
 use Rattle.core_laws.proofs.Asking.{codes_sound}
 use Rattle.lock_table.specs.declared.view.Part.{Part}
@@ -24,7 +22,7 @@ use Rattle.lock_table.specs.declared.words.Words.{Words}
 use Rattle.lock_table.specs.Bits.{IsEvent, is_set}
 use Rattle.lock_table.specs.Roots.{HasFreshBut, is_among}
 use Rattle.lock_table.specs.Rule.{StandsIn}
-use Rattle.lock_table.specs.Views.{EachPart, StartsWith, find, first_kept, fresh, is_known, phase_of, root_parts}
+use Rattle.lock_table.specs.Views.{EachPart, find, fresh, is_known, phase_of, root_parts}
 use Rattle.machine_core.specs.Board.{BoardData}
 use Rattle.machine_desc.specs.Actors.{actors_of}
 use Rattle.machine_desc.specs.Kept.{IsMachine}
@@ -32,7 +30,6 @@ use Rattle.machine_desc.specs.Machine.{MachineData}
 use Rattle.machine_history.specs.Legal.{Legal}
 use Rattle.machine_reader.specs.Canonical.{canonical}
 use Rattle.history_text.specs.Text.{log_text}
-use Rattle.sci_threads.specs.Rounds.{Begins}
 use Rattle.sci_threads.specs.declared.any.AnyActor.{AnyActor}
 use Rattle.sci_threads.specs.declared.any.AnyActor.TheVariants as any
 use Rattle.sci_threads.specs.Actors.{IsSound, core_in, phases_of, stands, who}
@@ -144,12 +141,8 @@ closed m turns w board words actors v core ok world legal history word pins stan
 
 -- ---- what is written
 
-pub goes_on : (first : List Entry) (before after : List Entry) → StartsWith before first → Begins before after → StartsWith after first
-goes_on first before after begun more = (begun.0 ++ more.0, more.1 ∙ (ap (λ l. l ++ more.0) begun.1 ∙ append_assoc first begun.0 more.0))
-
-pub text_is : (m inner : MachineData) (b board : BoardData) (text given : List ℕ) → b ≡ board → board.machine ≡ inner → inner ≡ m → given ≡ text → text ≡ canonical inner → log_text b.machine given b.entries ≡ log_text m (canonical m) board.entries
-text_is m inner b board text given same machine its plain canonical_text =
-    let named : b.machine ≡ m = ap (λ (x : BoardData). x.machine) same ∙ (machine ∙ its) in
+pub text_is : (m inner : MachineData) (board : BoardData) (text given : List ℕ) → board.machine ≡ inner → inner ≡ m → given ≡ text → text ≡ canonical inner → log_text board.machine given board.entries ≡ log_text m (canonical m) board.entries
+text_is m inner board text given machine its plain canonical_text =
+    let named : board.machine ≡ m = machine ∙ its in
     let texts : given ≡ canonical m = plain ∙ (canonical_text ∙ ap canonical its) in
-    let entries : b.entries ≡ board.entries = ap (λ (x : BoardData). x.entries) same in
-    (λ i. log_text (named i) (texts i) (entries i))
+    (λ i. log_text (named i) (texts i) board.entries)

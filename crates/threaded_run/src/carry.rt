@@ -37,13 +37,49 @@ pub fn carry_out<K: Sink>(raced: Raced, sink: &mut K) -> Result<(), WriteFault>
         machine,
         table,
         root,
-        mut actors,
+        actors,
         text,
     } = raced;
-    let mut world = closed(&machine, table, root, &actors);
-    drain(&mut world, &machine, &mut actors);
-    law_entries(world.board());
-    write_log(&text, world.board(), sink)
+    let board = finished(&machine, table, root, actors);
+    law_entries(&board);
+    write_log(&text, &board, sink)
+}
+
+/// Closes the table of a raced machine, and lets rounds finish what the threads left: the board that is left. It takes no memory,
+/// and has no refusal.
+///
+/// The board is one of that machine. Its history is complete, and begins with all that the root of the table had seen.
+pub fn at_rest(raced: Raced) -> Board
+    ensures machine { result.machine ≡ raced.machine }
+    ensures complete { Complete raced.machine result.entries }
+    ensures begins { StartsWith result.entries raced.root.seen }
+{
+    let Raced {
+        machine,
+        table,
+        root,
+        actors,
+        ..
+    } = raced;
+    finished(&machine, table, root, actors)
+}
+
+/// The board that a table and rounds of its actors leave.
+fn finished(
+    machine: &Machine,
+    table: LockTable<Board>,
+    root: TableSeat,
+    mut actors: Vec<AnyActor>,
+) -> Board
+    requires { AreBack machine.now table.table.shared.key.machine table.table.shared.table_id root actors.items }
+    ensures machine { result.machine ≡ machine.now }
+    ensures complete { Complete machine.now result.entries }
+    ensures begins { StartsWith result.entries root.view.seen }
+{
+    let mut world = closed(machine, table, root, &actors);
+    drain(&mut world, machine, &mut actors);
+    let (board, _) = world.into_parts();
+    board
 }
 
 /// The world that a table leaves when it is closed. With the actors it stands for a sound core.

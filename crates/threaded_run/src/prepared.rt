@@ -57,14 +57,15 @@ pub fn prepare_run(alloc: Global, bytes: &[u8]) -> Result<Prepared, ReaderFault>
 {
     let machine = read_machine(alloc, bytes)?;
     law_canonical(&machine);
-    match with_room(alloc, machine) {
+    match prepare_machine(alloc, machine) {
         Ok(prepared) => Ok(prepared),
         Err(Memory) => Err(ReaderFault::Memory),
     }
 }
 
-/// A machine with all that its run needs.
-fn with_room(alloc: Global, machine: Machine) -> Result<Prepared, Memory>
+/// Takes all the memory that a run of this machine needs, or answers `Memory` where room was wanting. The machine's weight is at
+/// most 1,048,576.
+pub fn prepare_machine(alloc: Global, machine: Machine) -> Result<Prepared, Memory>
     requires { weight_of machine ≤ 1048576 }
     ensures { IfOk result (λ p. p ≡ machine) }
 {

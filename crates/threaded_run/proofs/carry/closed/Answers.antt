@@ -1,4 +1,4 @@
-use Rattle.std.proofs.Common.{◌≡◌, ◌≤◌, ◌∙◌, true, subst}
+use Rattle.std.proofs.Common.{◌≡◌, ◌∙◌, true, subst}
 use Rattle.acpi_regs.specs.CoreSound.{CoreSound, is_word}
 use Rattle.machine_desc.specs.Machine.{MachineData}
 use Rattle.machine_history.specs.Legal.{Legal}
