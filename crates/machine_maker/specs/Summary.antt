@@ -19,7 +19,7 @@ abbrev pub one_add : Op → ℕ
 one_add (op.Add f v) = 1
 one_add _ = 0
 
--- a push of a code, which the handler of that code runs and notifies for
+-- a push of a code, for which its handler is run once and notifies once
 abbrev pub one_push : Op → ℕ
 one_push (op.Push q) = 1
 one_push _ = 0

@@ -7,4 +7,5 @@ pub mod Lines
 pub mod Plans
 pub mod Priced
 pub mod Pushed
+pub mod Summed
 pub mod Walk

@@ -3,7 +3,6 @@ use Rattle.machine_desc.specs.Kept.{IsMachine}
 use Rattle.machine_history.specs.Complete.{Complete}
 use Rattle.machine_maker.specs.Maker.{made}
 use Rattle.run_summary.specs.Told.{told}
-use Rattle.run_summary.proofs.Lines.{told_is}
 use Rattle.run_summary.proofs.summary.summarize.Goals as goal
 
 pub returns-clause-summary : goal.returns-clause-summary
@@ -15,4 +14,4 @@ returns-clause-summary c =
     let complete : Complete (made number size) history = subst (λ m. Complete m history) c.requires.machine c.requires.complete in
     c.tell.ensures
     ∙ (ap (λ m. told number size m (reverse history)) c.requires.machine
-    ∙ told_is number size (reverse history) (c.law_summary.ensures number size history ok complete))
+    ∙ c.law_summary.ensures.lines number size history ok complete)
