@@ -1,9 +1,9 @@
 -- What follows from what a judging did.
-use Rattle.std.proofs.Common.{◌≡◌, ℕ, zero, suc, ◌+◌, ◌<◌, ◌≤◌, ◌^◌, ◌⊎◌, inl, inr, All, Bool, true, false, cond, List, [], ◌∷◌, ◌++◌, length, reverse, Option, refl, sym, ap, ◌∙◌, subst, arith, length-append, codes}
+use Rattle.std.proofs.Common.{◌≡◌, ℕ, zero, suc, ◌+◌, ◌<◌, ◌≤◌, ◌^◌, ◌⊎◌, inl, inr, All, Bool, true, false, cond, List, [], ◌∷◌, ◌++◌, length, reverse, Option, refl, sym, ap, ◌∙◌, subst, arith, length-append}
 use Rattle.std.proofs.lemmas.List.Elements.{All-append, All-cons, All-nil}
 use Rattle.acpi_regs.specs.declared.entry.Entry.{Entry}
 use Rattle.acpi_regs.specs.declared.event.Event.{Event}
-use Rattle.acpi_regs.specs.Core.{event_at, events_below, events_of, if_in}
+use Rattle.acpi_regs.specs.Core.{event_at, events_below, if_in}
 use Rattle.history_text.specs.Lines.{BadLine, IsReadBack, log_lines}
 use Rattle.history_text.specs.Named.{IsEntry, IsEvent}
 use Rattle.history_text.specs.Text.{entry_line, entry_lines, entry_text, log_text, machine_line, rest_line, stuck, stuck_lines}

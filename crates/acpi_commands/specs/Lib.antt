@@ -1,4 +1,5 @@
 pub mod Check
+pub mod CommandLine
 pub mod Ending
 pub mod Headline
 pub mod Run

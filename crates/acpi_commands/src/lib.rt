@@ -16,6 +16,7 @@ mod command;
 mod ending;
 pub mod laws;
 mod log;
+mod make;
 mod names;
 mod program;
 mod replay;

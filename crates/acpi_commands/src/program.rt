@@ -1,11 +1,12 @@
 ghost use Rattle.std.specs.Prelude.{◌≡◌, ◌+◌, ◌≤◌, length};
 ghost use Rattle.acpi_io.specs.Faults.{RoseByOne};
 ghost use Rattle.acpi_commands.specs.declared.command.Command.{Command};
-ghost use Rattle.acpi_commands.specs.Run.{Answers, ByCommand, Completes, Does};
-ghost use Rattle.acpi_commands.specs.Words.{IsCommand, limit_of};
+ghost use Rattle.acpi_commands.specs.Run.{Answers, ByCommand, ByTask, Completes, Does};
+ghost use Rattle.acpi_commands.specs.Words.{IsCommand, IsInRange, limit_of, most_reads};
 
 use crate::check::check_log;
-use crate::command::{Command, command_of};
+use crate::command::{Command, NoCommand, Task, command_of};
+use crate::make::make;
 use crate::replay::replay;
 use crate::run::run;
 use crate::status::Status;
@@ -19,12 +20,13 @@ use std::thread::Threads;
 /// The word `run` reads a description from the source, runs its machine with each actor on a thread of its own, and writes the
 /// log of what happened to the sink. Each actor passes the gate before each step on its thread. The word `replay` runs the
 /// machine on one thread: each name of the description's schedule has a step, and then come rounds. The word `check` reads a
-/// log, judges it, and writes `complete` and the number of its entries where it is complete.
+/// log, judges it, and writes `complete` and the number of its entries where it is complete. The words `make N S` read nothing:
+/// they make the machine of the number N and the size S, run it as `run` does, and write a summary of its history.
 ///
 /// Refusals come in this order: `Usage`; `ReadFault` or `TooLarge`, as the reading meets them; for a description `NotJson`,
 /// `BadShape`, `BadMachine`, `TooLong`, and for a log `BadLog`, `Illegal`, `Unfinished`; `WriteFault`. `Memory` may come in place
-/// of each but `Usage`, before the machine runs or the verdict stands, and only where the words are a command, no read failed
-/// and no more bytes were taken than the command reads. After every refusal but `WriteFault` nothing was written, and after
+/// of each, before the machine runs or the verdict stands: while the words are read, where none is empty or starts with `-`;
+/// else only where they are a command, no read failed and no more bytes were taken than the command reads. After every refusal but `WriteFault` nothing was written, and after
 /// that one a front of the text was.
 pub fn acpi_events<R: Threads + Sync, S: Source, K: Sink, G: Gate>(
     rt: &R,
@@ -57,7 +59,7 @@ pub fn acpi_events<R: Threads + Sync, S: Source, K: Sink, G: Gate>(
     ensures source_later { S.faults source.old ≤ S.faults source.new }
     ensures sink_later { K.faults sink.old ≤ K.faults sink.new }
     ensures reads { (c : Command) → IsCommand words.now c
-        → S.reads source.new ≤ S.reads source.old + (limit_of c + 1) }
+        → S.reads source.new ≤ S.reads source.old + most_reads c }
 {
     answer(rt, alloc, words, source, sink, gate)
 }
@@ -84,15 +86,16 @@ fn answer<R: Threads + Sync, S: Source, K: Sink, G: Gate>(
     ensures source_later { S.faults source.old ≤ S.faults source.new }
     ensures sink_later { K.faults sink.old ≤ K.faults sink.new }
     ensures reads { (c : Command) → IsCommand words.now c
-        → S.reads source.new ≤ S.reads source.old + (limit_of c + 1) }
+        → S.reads source.new ≤ S.reads source.old + most_reads c }
 {
-    match command_of(words) {
-        Some(command) => obey(rt, alloc, command, source, sink, gate),
-        None => Status::Usage,
+    match command_of(alloc, words) {
+        Ok(command) => obey(rt, alloc, command, source, sink, gate),
+        Err(NoCommand::Usage) => Status::Usage,
+        Err(NoCommand::Memory) => Status::Memory,
     }
 }
 
-/// Reads what a command takes, and does it.
+/// Does a command.
 fn obey<R: Threads + Sync, S: Source, K: Sink, G: Gate>(
     rt: &R,
     alloc: Global,
@@ -101,7 +104,8 @@ fn obey<R: Threads + Sync, S: Source, K: Sink, G: Gate>(
     sink: &mut K,
     gate: &G,
 ) -> Status
-    ensures answers { ByCommand command (sink.new ≡ sink.old)
+    requires { IsInRange command }
+    ensures answers { ByCommand command (source.new ≡ source.old) (sink.new ≡ sink.old)
         (S.left source.old) (S.left source.new) (K.held sink.old) (K.held sink.new) result }
     ensures read_fault { result ≡ Status.ReadFault
         → RoseByOne (S.faults source.old) (S.faults source.new) }
@@ -113,35 +117,64 @@ fn obey<R: Threads + Sync, S: Source, K: Sink, G: Gate>(
         → K.faults sink.new ≡ K.faults sink.old }
     ensures source_later { S.faults source.old ≤ S.faults source.new }
     ensures sink_later { K.faults sink.old ≤ K.faults sink.new }
-    ensures reads { S.reads source.new ≤ S.reads source.old + (limit_of command + 1) }
+    ensures reads { S.reads source.new ≤ S.reads source.old + most_reads command }
 {
-    match read_all(alloc, source, command.limit()) {
-        Ok(bytes) => perform(rt, alloc, command, &bytes, sink, gate),
+    match command {
+        Command::Read(task) => read(rt, alloc, task, source, sink, gate),
+        Command::Make { number, size } => make(rt, alloc, number, size, sink, gate),
+    }
+}
+
+/// Reads what a task takes, and does it.
+fn read<R: Threads + Sync, S: Source, K: Sink, G: Gate>(
+    rt: &R,
+    alloc: Global,
+    task: Task,
+    source: &mut S,
+    sink: &mut K,
+    gate: &G,
+) -> Status
+    ensures answers { ByTask task (sink.new ≡ sink.old)
+        (S.left source.old) (S.left source.new) (K.held sink.old) (K.held sink.new) result }
+    ensures read_fault { result ≡ Status.ReadFault
+        → RoseByOne (S.faults source.old) (S.faults source.new) }
+    ensures write_fault { result ≡ Status.WriteFault
+        → RoseByOne (K.faults sink.old) (K.faults sink.new) }
+    ensures read_told { ¬ result ≡ Status.ReadFault
+        → S.faults source.new ≡ S.faults source.old }
+    ensures write_told { ¬ result ≡ Status.WriteFault
+        → K.faults sink.new ≡ K.faults sink.old }
+    ensures source_later { S.faults source.old ≤ S.faults source.new }
+    ensures sink_later { K.faults sink.old ≤ K.faults sink.new }
+    ensures reads { S.reads source.new ≤ S.reads source.old + (limit_of task + 1) }
+{
+    match read_all(alloc, source, task.limit()) {
+        Ok(bytes) => perform(rt, alloc, task, &bytes, sink, gate),
         Err(ReadAllFault::ReadFault) => Status::ReadFault,
         Err(ReadAllFault::TooLarge) => Status::TooLarge,
         Err(ReadAllFault::Memory) => Status::Memory,
     }
 }
 
-/// Does a command with what it has read.
+/// Does a task with what it has read.
 fn perform<R: Threads + Sync, K: Sink, G: Gate>(
     rt: &R,
     alloc: Global,
-    command: Command,
+    task: Task,
     bytes: &[u8],
     sink: &mut K,
     gate: &G,
 ) -> Status
-    requires { length bytes.now ≤ limit_of command }
-    ensures ends { Does command bytes.now (sink.new ≡ sink.old)
+    requires { length bytes.now ≤ limit_of task }
+    ensures ends { Does task bytes.now (sink.new ≡ sink.old)
         (K.held sink.old) (K.held sink.new) result }
     ensures later { K.faults sink.old ≤ K.faults sink.new }
     ensures cause { result ≡ Status.WriteFault → RoseByOne (K.faults sink.old) (K.faults sink.new) }
     ensures told { ¬ result ≡ Status.WriteFault → K.faults sink.new ≡ K.faults sink.old }
 {
-    match command {
-        Command::Run => run(rt, alloc, bytes, sink, gate),
-        Command::Replay => replay(alloc, bytes, sink),
-        Command::Check => check_log(alloc, bytes, sink),
+    match task {
+        Task::Run => run(rt, alloc, bytes, sink, gate),
+        Task::Replay => replay(alloc, bytes, sink),
+        Task::Check => check_log(alloc, bytes, sink),
     }
 }

@@ -12,7 +12,7 @@ ghost use Rattle.machine_history.specs.Complete.{Complete};
 ghost use Rattle.machine_history.specs.Played.{Played};
 ghost use Rattle.machine_reader.specs.Description.{Describes};
 ghost use Rattle.sci_threads.specs.Actors.{core_in, who};
-ghost use Rattle.acpi_commands.specs.declared.command.Command.TheVariants as command;
+ghost use Rattle.acpi_commands.specs.declared.command.Task.TheVariants as task;
 ghost use Rattle.acpi_commands.specs.Run.{FromBytes, Refuses, text};
 
 use crate::log::law_log;
@@ -32,7 +32,7 @@ use world::SerialWorld;
 
 /// Replays the machine that the bytes describe, by its schedule and then in rounds, and writes its log to the sink.
 pub fn replay<K: Sink>(alloc: Global, bytes: &[u8], sink: &mut K) -> Status
-    ensures ends { FromBytes command.Replay bytes.now (sink.new ≡ sink.old)
+    ensures ends { FromBytes task.Replay bytes.now (sink.new ≡ sink.old)
         (K.held sink.old) (K.held sink.new) result }
     ensures later { K.faults sink.old ≤ K.faults sink.new }
     ensures cause { result ≡ Status.WriteFault → RoseByOne (K.faults sink.old) (K.faults sink.new) }

@@ -1,7 +1,7 @@
 //! A run of a machine, on threads.
 ghost use Rattle.std.specs.Prelude.{◌≡◌, ◌≤◌};
 ghost use Rattle.acpi_io.specs.Faults.{RoseByOne};
-ghost use Rattle.acpi_commands.specs.declared.command.Command.TheVariants as command;
+ghost use Rattle.acpi_commands.specs.declared.command.Task.TheVariants as task;
 ghost use Rattle.acpi_commands.specs.Run.{FromBytes};
 
 use crate::log::law_log;
@@ -21,7 +21,7 @@ pub fn run<R: Threads + Sync, K: Sink, G: Gate>(
     sink: &mut K,
     gate: &G,
 ) -> Status
-    ensures ends { FromBytes command.Run bytes.now (sink.new ≡ sink.old)
+    ensures ends { FromBytes task.Run bytes.now (sink.new ≡ sink.old)
         (K.held sink.old) (K.held sink.new) result }
     ensures later { K.faults sink.old ≤ K.faults sink.new }
     ensures cause { result ≡ Status.WriteFault → RoseByOne (K.faults sink.old) (K.faults sink.new) }

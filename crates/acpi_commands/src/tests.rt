@@ -2,8 +2,8 @@
 //! with their answers and logs stand in the crates `description_verdicts` and `machine_runs`.
 mod threads;
 
-use crate::{OpenGate, Status, acpi_events, end};
-use acpi_io::{MemorySink, MemorySource, ReadOutcome, Source};
+use crate::{Status, acpi_events, end};
+use acpi_io::{MemorySink, MemorySource};
 use acpi_regs::Actor;
 use machine_core::LogRule;
 use machine_desc::{BadMachine, Part, Place, Rule};
@@ -11,6 +11,7 @@ use std::alloc::{AllocError, Global};
 use std::process::ExitCode;
 use std::test::Fail;
 use std::thread::Threads;
+use threads::Meeting;
 
 /// The machine with nothing in it.
 const EMPTY: &str =
@@ -77,23 +78,35 @@ fn run<R: Threads + Sync>(
     description: &[u8],
     faults: Faults,
 ) -> Result<Outcome, Fail> {
-    call(rt, alloc, "run", description, faults)
+    call(rt, alloc, &["run"], description, faults)
 }
 
-/// Runs the program with one word.
+/// Runs the program with these words.
 fn call<R: Threads + Sync>(
     rt: &R,
     alloc: Global,
-    word: &str,
+    texts: &[&str],
     input: &[u8],
     faults: Faults,
 ) -> Result<Outcome, Fail> {
+    call_at(rt, alloc, texts, input, faults, &Meeting::of_nobody())
+}
+
+/// The same, where each actor passes this gate. All tests call the program with the same types: its code is made for them once.
+fn call_at<R: Threads + Sync>(
+    rt: &R,
+    alloc: Global,
+    texts: &[&str],
+    input: &[u8],
+    faults: Faults,
+    gate: &Meeting,
+) -> Result<Outcome, Fail> {
     let most = faults.most.max(1);
-    let words = words(alloc, &[word])?;
+    let words = words(alloc, texts)?;
     let bytes = input.to_vec(alloc)?;
     let mut source = MemorySource::new(bytes, numbers(alloc, faults.read)?, most);
     let mut sink = MemorySink::new(alloc, numbers(alloc, faults.write)?, most, 1 << 20)?;
-    let status = acpi_events(rt, alloc, &words, &mut source, &mut sink, &OpenGate);
+    let status = acpi_events(rt, alloc, &words, &mut source, &mut sink, gate);
     Ok(Outcome {
         status,
         held: sink.held().to_vec(alloc)?,
@@ -115,7 +128,7 @@ fn times(text: &str, part: &str) -> usize {
 fn a_notebook_runs_and_its_log_is_complete(rt: HostRuntime) -> Result<(), Fail> {
     let alloc = rt.alloc();
     for word in ["run", "replay"] {
-        let outcome = call(&rt, alloc, word, NOTEBOOK.as_bytes(), NO_FAULTS)?;
+        let outcome = call(&rt, alloc, &[word], NOTEBOOK.as_bytes(), NO_FAULTS)?;
         assert_eq!(rt; outcome.status, Status::Ok);
         let log = str::from_utf8(&outcome.held).unwrap_or("");
         for notify in ["01 80", "02 80", "03 80", "04 80", "05 81"] {
@@ -124,7 +137,7 @@ fn a_notebook_runs_and_its_log_is_complete(rt: HostRuntime) -> Result<(), Fail> 
         }
         assert_eq!(rt; times(log, " write 00:0000 09\n"), 1);
         assert_eq!(rt; times(log, "\nstuck "), 0);
-        let verdict = call(&rt, alloc, "check", log.as_bytes(), NO_FAULTS)?;
+        let verdict = call(&rt, alloc, &["check"], log.as_bytes(), NO_FAULTS)?;
         assert_eq!(rt; verdict.status, Status::Ok);
         // The machine's line and the last one are no entries.
         let entries = times(log, "\n").saturating_sub(2);
@@ -238,7 +251,7 @@ fn a_failing_write_of_a_replay_leaves_a_front_of_the_log(rt: HostRuntime) -> Res
         write: Some(2),
         most: 16,
     };
-    let outcome = call(&rt, alloc, "replay", BUTTON.as_bytes(), faults)?;
+    let outcome = call(&rt, alloc, &["replay"], BUTTON.as_bytes(), faults)?;
     assert_eq!(rt; outcome.status, Status::WriteFault);
     let machine_line = format!(in alloc; "machine {BUTTON}\n")?;
     assert!(rt; outcome.held.as_slice() == &machine_line.as_bytes()[..32]);
@@ -252,56 +265,97 @@ fn a_sink_with_no_room_left_is_a_write_fault(rt: HostRuntime) -> Result<(), Fail
     let mut source = MemorySource::new(TWO.as_bytes().to_vec(alloc)?, Vec::new(alloc), 100);
     let mut sink = MemorySink::new(alloc, Vec::new(alloc), 16, 32)?;
     assert_eq!(rt;
-        acpi_events(&rt, alloc, &words, &mut source, &mut sink, &OpenGate),
+        acpi_events(
+            &rt,
+            alloc,
+            &words,
+            &mut source,
+            &mut sink,
+            &Meeting::of_nobody()
+        ),
         Status::WriteFault
     );
     assert!(rt; sink.held() == &TWO_LOG.as_bytes()[..32]);
     Ok(())
 }
 
-/// A source that counts how often it is asked, and has nothing to give.
-#[derive(Drop)]
-struct Unread {
-    reads: u64,
-}
-
-impl Source for Unread {
-    ghost use Rattle.std.specs.Prelude.{None};
-
-    ghost left = { λ _. None };
-
-    ghost faults = { λ _. 0 };
-
-    ghost reads = { λ s. s.reads };
-
-    fn read(&mut self, _into: &mut [u8]) -> ReadOutcome {
-        self.reads = self.reads.saturating_add(1);
-        ReadOutcome::End
-    }
-}
-
+/// The first read of the source fails, which is told wherever the source is read.
 #[test]
 fn words_that_are_no_command_leave_the_source_unread(rt: HostRuntime) -> Result<(), Fail> {
-    let alloc = rt.alloc();
-    let cases: [&[&str]; 6] = [
+    let first = Faults {
+        read: Some(0),
+        ..NO_FAULTS
+    };
+    let cases: [&[&str]; 22] = [
         &[],
         &["run", "now"],
         &["--help"],
         &["Run"],
         &[""],
         &["run", ""],
+        &["run", "-1", "1"],
+        &["make"],
+        &["make", "1"],
+        &["make", "1", "1", "1"],
+        &["make", "01", "1"],
+        &["make", "1", "01"],
+        &["make", "+1", "1"],
+        &["make", "-1", "1"],
+        &["make", "1", "0"],
+        &["make", "1", "65"],
+        &["make", "4294967296", "1"],
+        &["make", "0x1", "1"],
+        &["make", " 1", "1"],
+        &["make", "1", ""],
+        &["Make", "1", "1"],
+        &["replay", "1", "1"],
     ];
     for texts in cases {
-        let words = words(alloc, texts)?;
-        let mut source = Unread { reads: 0 };
-        let mut sink = MemorySink::new(alloc, Vec::new(alloc), 1, 8)?;
-        assert_eq!(rt;
-            acpi_events(&rt, alloc, &words, &mut source, &mut sink, &OpenGate),
-            Status::Usage
-        );
-        assert_eq!(rt; source.reads, 0);
-        assert_eq!(rt; sink.writes(), 0);
+        let outcome = call(&rt, rt.alloc(), texts, b"", first)?;
+        assert_eq!(rt; outcome.status, Status::Usage);
+        assert_eq!(rt; outcome.writes, 0);
     }
+    Ok(())
+}
+
+/// What `make 0 1` writes.
+const MAKE_0_1: &str =
+    "make 0 1 weight 1782\nadds 34 runs 30 notifies 30\ncells 02 04 08 05 04 08 05 05 07 02 02 03 02 02 02 03\n";
+
+/// The source is not read: its first read would fail.
+#[test]
+fn make_writes_the_same_three_lines_at_each_run(rt: HostRuntime) -> Result<(), Fail> {
+    let alloc = rt.alloc();
+    let first = Faults {
+        read: Some(0),
+        ..NO_FAULTS
+    };
+    for _ in 0..5u32 {
+        let outcome = call(&rt, alloc, &["make", "0", "1"], b"", first)?;
+        assert_eq!(rt; outcome.status, Status::Ok);
+        assert!(rt; outcome.held.as_slice() == MAKE_0_1.as_bytes());
+        assert_eq!(rt; outcome.writes, 1);
+    }
+    let one = call(&rt, alloc, &["make", "7", "64"], b"", first)?;
+    assert_eq!(rt; one.status, Status::Ok);
+    assert!(rt; one.held.starts_with(b"make 7 64 weight "));
+    assert_eq!(rt; times(str::from_utf8(&one.held).unwrap_or(""), "\n"), 3);
+    let other = call(&rt, alloc, &["make", "7", "64"], b"", first)?;
+    assert!(rt; other.held.as_slice() == one.held.as_slice());
+    Ok(())
+}
+
+/// The sink takes 16 bytes a call, and the third call fails.
+#[test]
+fn a_failing_write_of_make_leaves_a_front_of_the_summary(rt: HostRuntime) -> Result<(), Fail> {
+    let faults = Faults {
+        read: None,
+        write: Some(2),
+        most: 16,
+    };
+    let outcome = call(&rt, rt.alloc(), &["make", "0", "1"], b"", faults)?;
+    assert_eq!(rt; outcome.status, Status::WriteFault);
+    assert!(rt; outcome.held.as_slice() == &MAKE_0_1.as_bytes()[..32]);
     Ok(())
 }
 
@@ -426,7 +480,7 @@ fn a_log_that_is_not_complete_is_refused(rt: HostRuntime) -> Result<(), Fail> {
         ("f0 write 00:0000 5A\n", 10, "BadLog 3"),
     ] {
         let log = format!(in alloc; "{machine}\n{lines}")?;
-        let verdict = call(&rt, alloc, "check", log.as_bytes(), NO_FAULTS)?;
+        let verdict = call(&rt, alloc, &["check"], log.as_bytes(), NO_FAULTS)?;
         assert_eq!(rt; verdict.status.code(), code, "{lines}");
         let text = format!(in alloc; "{}", verdict.status)?;
         assert!(rt; text.as_str() == said, "{lines}");

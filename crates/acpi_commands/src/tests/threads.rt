@@ -1,7 +1,6 @@
 //! Runs on threads: that actors are beside one another, and what holds of every log whatever turns they took.
-use super::{NO_FAULTS, call, times, words};
-use crate::{Status, acpi_events, prepare_run};
-use acpi_io::{MemorySink, MemorySource};
+use super::{MAKE_0_1, NO_FAULTS, call, call_at, times};
+use crate::{Status, prepare_run};
 use acpi_regs::{Actor, Gate};
 use std::sync::atomic::{AtomicBool, Ordering};
 use std::test::Fail;
@@ -18,9 +17,10 @@ const ADDERS: &str =
 /// How often a gate looks before it gives up.
 const LIMIT: u32 = 50_000_000;
 
-/// A gate at which the first firmware and the first worker wait for each other, each at its first pass.
+/// A gate at which the first firmware and the first worker wait for each other, each at its first pass; or nobody does.
 #[derive(Drop)]
-struct Meeting {
+pub struct Meeting {
+    waits: bool,
     firmware: AtomicBool,
     worker: AtomicBool,
     gave_up: AtomicBool,
@@ -37,9 +37,23 @@ impl Gate for Meeting {
 }
 
 impl Meeting {
+    fn new(waits: bool) -> Meeting {
+        Meeting {
+            waits,
+            firmware: AtomicBool::new(false),
+            worker: AtomicBool::new(false),
+            gave_up: AtomicBool::new(false),
+        }
+    }
+
+    /// A gate at which nobody waits.
+    pub fn of_nobody() -> Meeting {
+        Meeting::new(false)
+    }
+
     /// Raises the one flag, and at the first pass waits until the other is raised.
     fn meet(&self, own: &AtomicBool, other: &AtomicBool) {
-        if !own.swap(true, Ordering::SeqCst) && !is_raised(other) {
+        if self.waits && !own.swap(true, Ordering::SeqCst) && !is_raised(other) {
             self.gave_up.store(true, Ordering::SeqCst);
         }
     }
@@ -59,19 +73,17 @@ fn is_raised(flag: &AtomicBool) -> bool {
 #[test]
 fn gate_interleaves(rt: HostRuntime) -> Result<(), Fail> {
     let alloc = rt.alloc();
-    let gate = Meeting {
-        firmware: AtomicBool::new(false),
-        worker: AtomicBool::new(false),
-        gave_up: AtomicBool::new(false),
-    };
-    let words = words(alloc, &["run"])?;
-    let mut source = MemorySource::new(BESIDE.as_bytes().to_vec(alloc)?, Vec::new(alloc), 65536);
-    let mut sink = MemorySink::new(alloc, Vec::new(alloc), 65536, 1 << 16)?;
-    let status = acpi_events(&rt, alloc, &words, &mut source, &mut sink, &gate);
-    assert_eq!(rt; status, Status::Ok);
-    assert!(rt; !gate.gave_up.load(Ordering::SeqCst));
-    assert!(rt; gate.firmware.load(Ordering::SeqCst));
-    assert!(rt; gate.worker.load(Ordering::SeqCst));
+    let cases: [(&[&str], &str); 2] = [(&["run"], BESIDE), (&["make", "0", "1"], "")];
+    for (texts, input) in cases {
+        let gate = Meeting::new(true);
+        let outcome = call_at(&rt, alloc, texts, input.as_bytes(), NO_FAULTS, &gate)?;
+        assert_eq!(rt; outcome.status, Status::Ok);
+        assert!(rt; !gate.gave_up.load(Ordering::SeqCst));
+        assert!(rt; gate.firmware.load(Ordering::SeqCst));
+        assert!(rt; gate.worker.load(Ordering::SeqCst));
+        let is_summary = outcome.held.as_slice() == MAKE_0_1.as_bytes();
+        assert_eq!(rt; is_summary, input.is_empty());
+    }
     Ok(())
 }
 
@@ -79,7 +91,7 @@ fn gate_interleaves(rt: HostRuntime) -> Result<(), Fail> {
 fn adders_under_the_lock_lose_nothing_in_200_runs(rt: HostRuntime) -> Result<(), Fail> {
     let alloc = rt.alloc();
     for _ in 0..200u32 {
-        let outcome = call(&rt, alloc, "run", ADDERS.as_bytes(), NO_FAULTS)?;
+        let outcome = call(&rt, alloc, &["run"], ADDERS.as_bytes(), NO_FAULTS)?;
         assert_eq!(rt; outcome.status, Status::Ok);
         let log = str::from_utf8(&outcome.held).unwrap_or("");
         assert!(rt; log.ends_with("\nrest 12\n"));
@@ -102,7 +114,7 @@ fn a_notebook_runs_on_threads_50_times(rt: HostRuntime) -> Result<(), Fail> {
     };
     assert_eq!(rt; prepared.machine().weight(), 1317);
     for _ in 0..50u32 {
-        let outcome = call(&rt, alloc, "run", super::NOTEBOOK.as_bytes(), NO_FAULTS)?;
+        let outcome = call(&rt, alloc, &["run"], super::NOTEBOOK.as_bytes(), NO_FAULTS)?;
         assert_eq!(rt; outcome.status, Status::Ok);
         let log = str::from_utf8(&outcome.held).unwrap_or("");
         for notify in ["01 80", "02 80", "03 80", "04 80", "05 81"] {
@@ -114,7 +126,7 @@ fn a_notebook_runs_on_threads_50_times(rt: HostRuntime) -> Result<(), Fail> {
             .ok_or("no ninth write")?;
         assert_eq!(rt; times(behind, " write 00:0000 "), 0);
         assert_eq!(rt; times(log, "\nstuck "), 0);
-        let verdict = call(&rt, alloc, "check", log.as_bytes(), NO_FAULTS)?;
+        let verdict = call(&rt, alloc, &["check"], log.as_bytes(), NO_FAULTS)?;
         assert_eq!(rt; verdict.status, Status::Ok);
     }
     Ok(())

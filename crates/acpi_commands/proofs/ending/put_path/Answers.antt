@@ -1,4 +1,4 @@
-use Rattle.std.proofs.Common.{◌∷◌, [], ◌++◌}
+use Rattle.std.proofs.Common.{◌∷◌, []}
 use Rattle.std.proofs.lemmas.Result.{err_from_is_err_and}
 use Rattle.history_text.proofs.Writing.{fails_before, then_goes_on}
 use Rattle.acpi_commands.proofs.ending.put_path.Goals as goal

@@ -1,4 +1,4 @@
-use Rattle.std.proofs.Common.{◌≡◌, refl, sym}
+use Rattle.std.proofs.Common.{◌≡◌, refl}
 use Rattle.acpi_commands.specs.Ending.{error_line, status_line}
 use Rattle.acpi_commands.specs.declared.status.Status.{Status}
 use Rattle.acpi_commands.specs.declared.status.Status.TheVariants as status

@@ -1,4 +1,4 @@
-use Rattle.std.proofs.Common.{◌≡◌, List, ℕ, ◌∷◌, [], ◌++◌, codes, sym, ap, ◌∙◌, subst}
+use Rattle.std.proofs.Common.{List, ℕ, ◌∷◌, [], ◌++◌, codes, ◌∙◌, subst}
 use Rattle.std.proofs.lemmas.Result.{err_from_is_err_and}
 use Rattle.acpi_io.specs.Sink.{AddsFront, WritesAll}
 use Rattle.acpi_commands.specs.Ending.{carried, name_of, status_line}

@@ -1,4 +1,4 @@
-use Rattle.std.proofs.Common.{◌≡◌, Ok, subst, sym}
+use Rattle.std.proofs.Common.{Ok, subst, sym}
 use Rattle.history_text.specs.Lines.{IsReadBack}
 use Rattle.machine_desc.specs.Kept.{IsMachine}
 use Rattle.machine_desc.specs.Machine.{MachineData}
