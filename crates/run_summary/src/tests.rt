@@ -26,38 +26,63 @@ fn lines_of_a_summary(rt: HostRuntime) -> Result<(), Fail> {
     Ok(())
 }
 
-/// Makes an entry, where it is allowed.
-fn play(board: &mut Board, actor: Actor, deed: Deed) -> Result<(), Fail> {
-    let entry = Entry { actor, deed };
-    if !board.can(&entry) {
-        return Err(Fail::new("an entry is not allowed"));
+/// Makes entries, where each is allowed.
+fn play(board: &mut Board, entries: &[(Actor, Deed)]) -> Result<(), Fail> {
+    for (actor, deed) in entries {
+        let entry = Entry {
+            actor: *actor,
+            deed: *deed,
+        };
+        if !board.can(&entry) {
+            return Err(Fail::new("an entry is not allowed"));
+        }
+        board.apply(entry);
     }
-    board.apply(entry);
     Ok(())
 }
 
 /// An addition of 1 to a cell that has this byte.
 fn add(board: &mut Board, actor: Actor, offset: u16, byte: u8) -> Result<(), Fail> {
     let cell = Cell { region: 0, offset };
-    play(board, actor, Deed::Seek)?;
-    play(board, actor, Deed::Own)?;
-    play(board, actor, Deed::Read(cell, byte))?;
-    play(board, actor, Deed::Write(cell, byte.wrapping_add(1)))?;
-    play(board, actor, Deed::Disown)?;
-    play(board, actor, Deed::Leave(false))
+    let entries = [
+        (actor, Deed::Seek),
+        (actor, Deed::Own),
+        (actor, Deed::Read(cell, byte)),
+        (actor, Deed::Write(cell, byte.wrapping_add(1))),
+        (actor, Deed::Disown),
+        (actor, Deed::Leave(false)),
+    ];
+    play(board, entries.as_slice())
 }
 
-/// A worker's query, which brings code 05.
-fn query(board: &mut Board, worker: Actor) -> Result<(), Fail> {
-    play(board, worker, Deed::Seek)?;
-    play(board, worker, Deed::Own)?;
-    play(board, worker, Deed::Begin(Request::Qr))?;
-    play(board, Actor::Poll, Deed::Step(HostMove::Sc(0x84)))?;
-    play(board, Actor::Ec, Deed::Ctl(Effect::Out(5)))?;
-    play(board, Actor::Poll, Deed::Step(HostMove::Get(5)))?;
-    play(board, worker, Deed::Take(Some(5)))?;
-    play(board, worker, Deed::Disown)?;
-    play(board, worker, Deed::Leave(false))
+/// A push of code 05 by the first firmware, and the query of a worker that brings it.
+fn push_and_query(board: &mut Board, worker: Actor) -> Result<(), Fail> {
+    let entries = [
+        (Actor::Firmware(0), Deed::Push(5)),
+        (Actor::Poll, Deed::Claim(Event::Gpe(0x6E))),
+        (worker, Deed::Start(0)),
+        (worker, Deed::Seek),
+        (worker, Deed::Own),
+        (worker, Deed::Begin(Request::Qr)),
+        (Actor::Poll, Deed::Step(HostMove::Sc(0x84))),
+        (Actor::Ec, Deed::Ctl(Effect::Out(5))),
+        (Actor::Poll, Deed::Step(HostMove::Get(5))),
+        (worker, Deed::Take(Some(5))),
+        (worker, Deed::Disown),
+        (worker, Deed::Leave(false)),
+        (worker, Deed::Finish(0)),
+    ];
+    play(board, entries.as_slice())
+}
+
+/// The run of code 05, whose handler adds to field 5 and notifies.
+fn run_code(board: &mut Board, worker: Actor) -> Result<(), Fail> {
+    play(board, [(worker, Deed::Start(1))].as_slice())?;
+    add(board, worker, 5, 1)?;
+    play(
+        board,
+        [(worker, Deed::Notify(5, 128)), (worker, Deed::Finish(1))].as_slice(),
+    )
 }
 
 #[test]
@@ -65,24 +90,14 @@ fn counts_of_a_history_made_by_hand(rt: HostRuntime) -> Result<(), Fail> {
     let alloc = rt.alloc();
     let machine = make(alloc, 0, 1)?;
     let mut board = Board::new(alloc, machine)?;
-    let (firmware, worker) = (Actor::Firmware(0), Actor::Worker(2));
-    // Its first script adds to the fields 0, 5, 10 and 15, and pushes code 05, whose handler adds to field 5 and notifies.
+    // The first script adds to the fields 0, 5, 10 and 15, and pushes code 05.
     for offset in [0, 5, 10, 15] {
-        add(&mut board, firmware, offset, 0)?;
+        add(&mut board, Actor::Firmware(0), offset, 0)?;
     }
-    play(&mut board, firmware, Deed::Push(5))?;
-    play(&mut board, Actor::Poll, Deed::Claim(Event::Gpe(0x6E)))?;
-    play(&mut board, worker, Deed::Start(0))?;
-    query(&mut board, worker)?;
-    play(&mut board, worker, Deed::Finish(0))?;
-    play(&mut board, worker, Deed::Start(1))?;
-    add(&mut board, worker, 5, 1)?;
-    play(&mut board, worker, Deed::Notify(5, 128))?;
-    play(&mut board, worker, Deed::Finish(1))?;
+    push_and_query(&mut board, Actor::Worker(2))?;
+    run_code(&mut board, Actor::Worker(2))?;
     // The worker's addition is none of firmware's, and a query starts no run of a code.
     let tally = count_entries(&board);
-    assert_eq!(rt; tally.adds, 4);
-    assert_eq!(rt; tally.codes, 1);
-    assert_eq!(rt; tally.notifies, 1);
+    assert!(rt; (tally.adds, tally.codes, tally.notifies) == (4, 1, 1));
     Ok(())
 }
