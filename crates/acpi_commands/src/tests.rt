@@ -1,5 +1,5 @@
 //! The program over sources and sinks in memory, which fail at a call, have no room, or give too much. Tables of descriptions
-//! with their answers and logs stand in the crates `description_verdicts` and `machine_runs`.
+//! with their answers and logs stand in the crates `gate_descriptions` and `gate_runs`.
 mod threads;
 
 use crate::{Status, acpi_events, end};

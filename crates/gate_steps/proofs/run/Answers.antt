@@ -1,7 +1,7 @@
 use Rattle.std.proofs.Common.{◌≡◌, [], IfOk, ap, subst, sym, ◌∙◌}
 use Rattle.acpi_regs.specs.Phases.{first_phase}
 use Rattle.sci_threads.specs.Actors.{IsSound, phases_of}
-use Rattle.actor_steps.proofs.run.Goals as goal
+use Rattle.gate_steps.proofs.run.Goals as goal
 
 pub show-requires-clause-sound : goal.show-requires-clause-sound
 show-requires-clause-sound c =

@@ -1,5 +1,5 @@
 use Rattle.std.proofs.Common.{◌-◌, ◌≤◌, length}
-use Rattle.log_verdicts.proofs.cases.case_len.Given as goal
+use Rattle.gate_logs.proofs.cases.case_len.Given as goal
 
 abbrev pub invariant-loop-len : goal.invariant-loop-len
 invariant-loop-len l = l.len ≤ length l.bytes

@@ -1,7 +1,7 @@
 use Rattle.std.proofs.Common.{◌≡◌, map}
 use Rattle.machine_desc.specs.Actors.{actors_of}
 use Rattle.sci_threads.specs.Actors.{IsSound, core_in, who}
-use Rattle.history_lengths.proofs.answer.Given as goal
+use Rattle.gate_lengths.proofs.answer.Given as goal
 
 abbrev pub invariant-loop : goal.invariant-loop
 invariant-loop l = record {

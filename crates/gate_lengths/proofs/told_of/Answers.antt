@@ -1,6 +1,6 @@
 use Rattle.std.proofs.Common.{◌≡◌, [], ap, subst, sym, ◌∙◌}
 use Rattle.sci_threads.specs.Actors.{IsSound}
-use Rattle.history_lengths.proofs.told_of.Goals as goal
+use Rattle.gate_lengths.proofs.told_of.Goals as goal
 
 pub play-requires-clause-sound : goal.play-requires-clause-sound
 play-requires-clause-sound c =
