@@ -1,5 +1,6 @@
 //! The order of all events, and the places of their bits in registers of 16 bits.
 ghost use Rattle.std.specs.Prelude.{◌≡◌, ◌<◌};
+ghost use Rattle.acpi_regs.specs.Core.{event_at};
 ghost use Rattle.acpi_regs.specs.Event.{event_rank};
 ghost use Rattle.acpi_regs.specs.Registers.{place_of};
 
@@ -7,10 +8,10 @@ use crate::{Event, Fixed};
 
 impl Event {
     /// How many events there can be: five fixed events and 256 GPEs.
-    pub const COUNT: usize = 261;
+    pub const COUNT: u16 = 261;
 
     /// The place of the event in the order in which events are served, from 0 to 260.
-    pub fn rank(self) -> usize
+    pub fn rank(self) -> u16
         ensures value { result ≡ event_rank self }
         ensures bound { result < 261 }
     {
@@ -20,14 +21,15 @@ impl Event {
             Event::Fixed(Fixed::Pwr) => 2,
             Event::Fixed(Fixed::Slp) => 3,
             Event::Fixed(Fixed::Rtc) => 4,
-            Event::Gpe(number) => 5 + usize::from(number),
+            Event::Gpe(number) => 5 + u16::from(number),
         }
     }
 
     /// The event at a place of that order. Requires a place below 261.
-    pub fn at_rank(rank: usize) -> Event
+    pub fn at_rank(rank: u16) -> Event
         requires { rank < 261 }
-        ensures { event_rank result ≡ rank }
+        ensures is { result ≡ event_at rank }
+        ensures place { event_rank result ≡ rank }
     {
         match rank {
             0 => Event::Fixed(Fixed::Tmr),
