@@ -1,13 +1,13 @@
-use Rattle.std.proofs.Common.{arith, ◌≡◌, length, ◌<◌, if◌then◌else◌, ◌==◌, subst, slice_set}
-use Rattle.event_chip.proofs.Slots.{touched_one, kept}
+use Rattle.std.proofs.Common.{arith, rules, ◌≡◌, length, ◌<◌, if◌then◌else◌, ◌==◌, subst, slice_set}
+use Rattle.event_chip.proofs.PlaceOrder.{kept}
+use Rattle.event_chip.proofs.Slots.{touched_one}
 use Rattle.acpi_regs.specs.declared.event.Event.{Event}
 use Rattle.acpi_regs.specs.Event.{same_event}
 use Rattle.event_chip.specs.Chip.{slot_of, touched}
-use Rattle.event_chip.specs.Ranks.{has}
 use Rattle.event_chip.proofs.chip.EventChip.touch.Goals as goal
 
 pub invariant_of-self : goal.invariant_of-self
-invariant_of-self c = kept c.self.inside.slots.items c.self.inside.pending.words c.set.new.self.words c.rank_of-rank.result c.after-slot.result c.self.invariant c.rank_of-rank.ensures.bound (λ n l. subst (λ b. has c.set.new.self.words n ≡ (if n == c.rank_of-rank.result then b else has c.self.inside.pending.words n)) c.is_pending.ensures (c.set.ensures n l))
+invariant_of-self c = kept c.self.inside.slots.items c.self.inside.words.status.words c.self.inside.words.enable.words c.put.new.self.status.words c.put.new.self.enable.words c.self.inside.words.summary c.put.new.self.summary c.args.event c.rank_of-rank.result c.from-place.result c.after-slot.result c.is_enabled.result c.rank_of-rank.ensures.value c.rank_of-rank.ensures.bound (search rules) c.is_enabled.ensures c.put.ensures.status c.put.ensures.enable c.put.ensures.summary c.self.invariant
 
 pub returns : goal.returns
 returns c =
