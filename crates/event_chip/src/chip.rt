@@ -80,14 +80,16 @@ impl EventChip {
     }
 
     /// Touches an event. Each call below is one touch, under the condition on which a machine makes it.
+    #[inline(always)]
     pub fn touch(&mut self, touch: Touch, event: Event)
         ensures { Touches touch event self.old self.new }
     {
         let rank = rank_of(event);
-        let slot = self.slots[rank].after(touch);
-        self.slots[rank] = slot;
+        let slot = self.slots[rank];
+        let after = slot.after(touch);
+        self.slots[rank] = after;
         let place = usize::from(event.register_place());
-        self.words.put(place, slot.state.status, slot.is_enabled());
+        self.words.follow(touch, place, slot, after);
     }
 
     /// The event happened: its status is set. The chip knows the event, which its `slot` tells.
@@ -152,7 +154,7 @@ impl EventChip {
     pub fn pending(&self, event: Event) -> bool
         ensures { result ≡ pends self.now event }
     {
-        self.slot(event).is_pending()
+        self.words.meets(usize::from(event.register_place()))
     }
 
     /// The first event, in the order in which events are served, that has status and is enabled; `None` exactly where no
@@ -295,12 +297,14 @@ fn event_in(place: usize) -> Event
     requires { rank_in place < 261 }
     ensures { event_rank result ≡ rank_in place }
 {
+    if place >= 16 {
+        return Event::Gpe((place - 16) as u8);
+    }
     match place {
         0 => Event::Fixed(Fixed::Tmr),
         5 => Event::Fixed(Fixed::Gbl),
         8 => Event::Fixed(Fixed::Pwr),
         9 => Event::Fixed(Fixed::Slp),
-        10 => Event::Fixed(Fixed::Rtc),
-        _ => Event::Gpe((place - 16) as u8),
+        _ => Event::Fixed(Fixed::Rtc),
     }
 }
