@@ -93,6 +93,7 @@ impl EventChip {
     }
 
     /// The event happened: its status is set. The chip knows the event, which its `slot` tells.
+    #[inline(always)]
     pub fn raise(&mut self, event: Event)
         requires { IsKnown self.old event }
         ensures { Touches touch.Raise event self.old self.new }
@@ -101,6 +102,7 @@ impl EventChip {
     }
 
     /// The line of a level event (`slot(event).kind.is_level()`) was asserted: its status is set, and runs are counted anew.
+    #[inline(always)]
     pub fn assert_line(&mut self, event: Event)
         requires { IsLevel self.old event }
         ensures { Touches touch.Assert event self.old self.new }
@@ -109,6 +111,7 @@ impl EventChip {
     }
 
     /// The line of a level event (`slot(event).kind.is_level()`) was dropped. Its status stays until the event's run ends.
+    #[inline(always)]
     pub fn drop_line(&mut self, event: Event)
         requires { IsLevel self.old event }
         ensures { Touches touch.Drop event self.old self.new }
@@ -118,6 +121,7 @@ impl EventChip {
 
     /// The OS takes the status of an event that is `pending` for dispatch. A listed event is held; the status is cleared
     /// unless the event is level.
+    #[inline(always)]
     pub fn claim(&mut self, event: Event)
         requires { pends self.old event ≡ true }
         ensures { Touches touch.Claim event self.old self.new }
@@ -127,6 +131,7 @@ impl EventChip {
 
     /// A run of the handler of an event that is held ended: the event is held no longer, and a level status becomes its line. A run that
     /// ends under an asserted line is counted, up to sixteen, and any other sets that count to 0.
+    #[inline(always)]
     pub fn finish(&mut self, event: Event)
         requires { (slot_of self.old event).state.held ≡ true }
         ensures { Touches touch.Finish event self.old self.new }
@@ -135,6 +140,7 @@ impl EventChip {
     }
 
     /// One reference more to a listed event (`slot(event).kind.is_listed()`), up to 255.
+    #[inline(always)]
     pub fn up(&mut self, event: Event)
         requires { IsListed self.old event }
         ensures { Touches touch.Up event self.old self.new }
@@ -143,6 +149,7 @@ impl EventChip {
     }
 
     /// One reference less to a listed event (`slot(event).kind.is_listed()`), down to 0.
+    #[inline(always)]
     pub fn down(&mut self, event: Event)
         requires { IsListed self.old event }
         ensures { Touches touch.Down event self.old self.new }
@@ -151,6 +158,7 @@ impl EventChip {
     }
 
     /// Whether the event has status and is enabled.
+    #[inline(always)]
     pub fn pending(&self, event: Event) -> bool
         ensures { result ≡ pends self.now event }
     {
@@ -159,6 +167,7 @@ impl EventChip {
 
     /// The first event, in the order in which events are served, that has status and is enabled; `None` exactly where no
     /// event is pending.
+    #[inline(always)]
     pub fn first_pending(&self) -> Option<Event>
         ensures { IsFirst self.now result }
     {

@@ -20,7 +20,7 @@ pub struct Words {
 
 impl Words {
     /// Says in the summary whether the words k share a bit.
-    #[inline]
+    #[inline(always)]
     fn sum_up(&mut self, k: usize)
         requires { k < 17 }
         ensures status { self.new.status.words ≡ self.old.status.words }
@@ -33,7 +33,7 @@ impl Words {
     }
 
     /// Writes the two bits of a place.
-    #[inline]
+    #[inline(always)]
     fn put(&mut self, place: usize, status: bool, enable: bool)
         requires { place < 272 }
         ensures status { (n : ℕ) → n < 272
@@ -49,7 +49,7 @@ impl Words {
     }
 
     /// Writes the status bit of a place, if it changes.
-    #[inline]
+    #[inline(always)]
     fn put_status(&mut self, place: usize, changes: bool, is: bool)
         requires place { place < 272 }
         requires stays { changes ≡ false → has self.old.status.words place ≡ is }
@@ -66,7 +66,7 @@ impl Words {
     }
 
     /// Writes the enable bit of a place, if it changes.
-    #[inline]
+    #[inline(always)]
     fn put_enable(&mut self, place: usize, changes: bool, is: bool)
         requires place { place < 272 }
         requires stays { changes ≡ false → has self.old.enable.words place ≡ is }
@@ -83,7 +83,7 @@ impl Words {
     }
 
     /// Writes what a claim changes. A listed event is held, so it is no longer enabled.
-    #[inline]
+    #[inline(always)]
     fn claim(&mut self, place: usize, old: Slot, new: Slot)
         requires place { place < 272 }
         requires status { has self.old.status.words place ≡ is_set old }
@@ -105,7 +105,7 @@ impl Words {
     }
 
     /// Writes what a finish changes. Only the status of a level event does.
-    #[inline]
+    #[inline(always)]
     fn finish(&mut self, place: usize, old: Slot, new: Slot)
         requires place { place < 272 }
         requires status { has self.old.status.words place ≡ is_set old }
@@ -153,7 +153,7 @@ impl Words {
     }
 
     /// Whether the bit of a place is set in both.
-    #[inline]
+    #[inline(always)]
     pub fn meets(&self, place: usize) -> bool
         requires { place < 272 }
         ensures { result ≡ meets self.now.status.words self.now.enable.words place }
