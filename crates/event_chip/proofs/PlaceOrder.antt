@@ -3,7 +3,7 @@ use Rattle.std.proofs.Common.{◌≡◌, ◌≢◌, inl, inr, ℕ, ◌<◌, ◌�
 use Rattle.std.proofs.lemmas.Grind.{get_or-set_at}
 use Rattle.std.proofs.lemmas.Bool.{cases_eq, cases_lt, ne_eqb, eq-eqb}
 use Rattle.std.proofs.lemmas.Bool.Decides.{nat_tests}
-use Rattle.std.proofs.lemmas.List.{get_or_past, length-set}
+use Rattle.std.proofs.lemmas.List.{get_or_default, get_or_past, length-set}
 use Rattle.std.proofs.lemmas.Nat.Bits.{bit_at-lt, bit_at-zero}
 use Rattle.std.specs.Int.{bit_at}
 use Rattle.acpi_regs.specs.declared.event.Event.{Event}
@@ -62,15 +62,15 @@ bit_kept test slots words words' n k p s b size rank small place is bits old q l
     bits q l ∙ rw (ne_eqb q p d) (old q l ∙ ap test (sym (get_or-set_other slots k (rank_in q) s no_slot elsewhere)))
 ]
 
-pub kept : (slots : List Slot) (status enable status' enable' : List ℕ) (m m' : ℕ) (n : Event) (k p : ℕ) (s : Slot) (en : Bool) → k ≡ event_rank n → k < 261 → p ≡ place_of n → en ≡ enables s
+pub kept : (slots : List Slot) (status enable status' enable' : List ℕ) (m m' : ℕ) (n : Event) (k p : ℕ) (s : Slot) → k ≡ event_rank n → k < 261 → p ≡ place_of n
     → ((q : ℕ) → q < 272 → has status' q ≡ (if q == p then is_set s else has status q))
-    → ((q : ℕ) → q < 272 → has enable' q ≡ (if q == p then en else has enable q))
+    → ((q : ℕ) → q < 272 → has enable' q ≡ (if q == p then enables s else has enable q))
     → (IsSummary status enable m → IsSummary status' enable' m')
     → IsKept slots status enable m → IsKept (slice_set slots k s) status' enable' m'
-kept slots status enable status' enable' m m' n k p s en rank small place is bits_s bits_e sums old = record {
+kept slots status enable status' enable' m m' n k p s rank small place bits_s bits_e sums old = record {
   size = length-set slots k s ∙ old.size;
   status_bits = bit_kept is_set slots status status' n k p s (is_set s) old.size rank small place refl bits_s old.status_bits;
-  enable_bits = bit_kept enables slots enable enable' n k p s en old.size rank small place is bits_e old.enable_bits;
+  enable_bits = bit_kept enables slots enable enable' n k p s (enables s) old.size rank small place refl bits_e old.enable_bits;
   summary_bits = sums old.summary_bits;
 }
 
@@ -188,3 +188,26 @@ fresh_kept slots status enable size none quiet shows = record {
   enable_bits = shows;
   summary_bits = λ k l. bit_at-zero k ∙ sym (ap (λ x. one (not (bit_and x (get_or enable k 0) == 0))) (none k));
 }
+
+-- ---- one event
+
+pub pends_at : (slots : List Slot) (status enable : List ℕ) (m : ℕ) (n : Event) (p : ℕ) (b : Bool) → IsKept slots status enable m → p ≡ place_of n → p < 272 → b ≡ meets status enable p → b ≡ pends slots n
+pends_at slots status enable m n p b kept place l is =
+    is ∙ ap (meets status enable) place ∙ pends_there slots status enable m n (small n (subst (λ q. q < 272) place l)) kept
+  where
+    small : (n : Event) → place_of n < 272 → event_rank n < 261
+    small (event.Fixed fixed.Tmr) l = omega arith
+    small (event.Fixed fixed.Gbl) l = omega arith
+    small (event.Fixed fixed.Pwr) l = omega arith
+    small (event.Fixed fixed.Slp) l = omega arith
+    small (event.Fixed fixed.Rtc) l = omega arith
+    small (event.Gpe n) l = omega (arith, l)
+
+-- a bit of an event's place is what its slot says
+pub shown_at : (test : Slot → Bool) (slots : List Slot) (words : List ℕ) (n : Event) (k p : ℕ) (d s : Slot) → length slots ≡ 261 → k ≡ event_rank n → k < 261 → p ≡ place_of n → s ≡ get_or slots k d → Shows test slots words → has words p ≡ test s
+shown_at test slots words n k p d s size rank small place read shows =
+    let within : k < length slots = omega (arith, size, small) in
+    ap (has words) place
+    ∙ test_of test slots words n (omega (arith, rank, small)) shows
+    ∙ ap (λ j. test (get_or slots j no_slot)) (sym rank)
+    ∙ ap test (sym (read ∙ get_or_default slots k d no_slot within))

@@ -80,17 +80,20 @@ impl EventChip {
     }
 
     /// Touches an event. Each call below is one touch, under the condition on which a machine makes it.
+    #[inline(always)]
     pub fn touch(&mut self, touch: Touch, event: Event)
         ensures { Touches touch event self.old self.new }
     {
         let rank = rank_of(event);
-        let slot = self.slots[rank].after(touch);
-        self.slots[rank] = slot;
+        let slot = self.slots[rank];
+        let after = slot.after(touch);
+        self.slots[rank] = after;
         let place = usize::from(event.register_place());
-        self.words.put(place, slot.state.status, slot.is_enabled());
+        self.words.follow(touch, place, slot, after);
     }
 
     /// The event happened: its status is set. The chip knows the event, which its `slot` tells.
+    #[inline(always)]
     pub fn raise(&mut self, event: Event)
         requires { IsKnown self.old event }
         ensures { Touches touch.Raise event self.old self.new }
@@ -99,6 +102,7 @@ impl EventChip {
     }
 
     /// The line of a level event (`slot(event).kind.is_level()`) was asserted: its status is set, and runs are counted anew.
+    #[inline(always)]
     pub fn assert_line(&mut self, event: Event)
         requires { IsLevel self.old event }
         ensures { Touches touch.Assert event self.old self.new }
@@ -107,6 +111,7 @@ impl EventChip {
     }
 
     /// The line of a level event (`slot(event).kind.is_level()`) was dropped. Its status stays until the event's run ends.
+    #[inline(always)]
     pub fn drop_line(&mut self, event: Event)
         requires { IsLevel self.old event }
         ensures { Touches touch.Drop event self.old self.new }
@@ -116,6 +121,7 @@ impl EventChip {
 
     /// The OS takes the status of an event that is `pending` for dispatch. A listed event is held; the status is cleared
     /// unless the event is level.
+    #[inline(always)]
     pub fn claim(&mut self, event: Event)
         requires { pends self.old event ≡ true }
         ensures { Touches touch.Claim event self.old self.new }
@@ -125,6 +131,7 @@ impl EventChip {
 
     /// A run of the handler of an event that is held ended: the event is held no longer, and a level status becomes its line. A run that
     /// ends under an asserted line is counted, up to sixteen, and any other sets that count to 0.
+    #[inline(always)]
     pub fn finish(&mut self, event: Event)
         requires { (slot_of self.old event).state.held ≡ true }
         ensures { Touches touch.Finish event self.old self.new }
@@ -133,6 +140,7 @@ impl EventChip {
     }
 
     /// One reference more to a listed event (`slot(event).kind.is_listed()`), up to 255.
+    #[inline(always)]
     pub fn up(&mut self, event: Event)
         requires { IsListed self.old event }
         ensures { Touches touch.Up event self.old self.new }
@@ -141,6 +149,7 @@ impl EventChip {
     }
 
     /// One reference less to a listed event (`slot(event).kind.is_listed()`), down to 0.
+    #[inline(always)]
     pub fn down(&mut self, event: Event)
         requires { IsListed self.old event }
         ensures { Touches touch.Down event self.old self.new }
@@ -149,14 +158,16 @@ impl EventChip {
     }
 
     /// Whether the event has status and is enabled.
+    #[inline(always)]
     pub fn pending(&self, event: Event) -> bool
         ensures { result ≡ pends self.now event }
     {
-        self.slot(event).is_pending()
+        self.words.meets(usize::from(event.register_place()))
     }
 
     /// The first event, in the order in which events are served, that has status and is enabled; `None` exactly where no
     /// event is pending.
+    #[inline(always)]
     pub fn first_pending(&self) -> Option<Event>
         ensures { IsFirst self.now result }
     {
@@ -295,12 +306,14 @@ fn event_in(place: usize) -> Event
     requires { rank_in place < 261 }
     ensures { event_rank result ≡ rank_in place }
 {
+    if place >= 16 {
+        return Event::Gpe((place - 16) as u8);
+    }
     match place {
         0 => Event::Fixed(Fixed::Tmr),
         5 => Event::Fixed(Fixed::Gbl),
         8 => Event::Fixed(Fixed::Pwr),
         9 => Event::Fixed(Fixed::Slp),
-        10 => Event::Fixed(Fixed::Rtc),
-        _ => Event::Gpe((place - 16) as u8),
+        _ => Event::Fixed(Fixed::Rtc),
     }
 }
