@@ -255,18 +255,48 @@ fn words_show_status_and_enable(rt: HostRuntime) {
         return;
     };
     // The fixed events by their PM1 bits: the Global Lock's, the power button and the clock are enabled.
-    assert_eq!(rt; chip.words(0), EventWord { status: 0, enable: 0x520 });
-    assert_eq!(rt; chip.words(1), EventWord { status: 0, enable: 0x4C });
+    assert_eq!(rt;
+        chip.words(0),
+        EventWord {
+            status: 0,
+            enable: 0x520
+        }
+    );
+    assert_eq!(rt;
+        chip.words(1),
+        EventWord {
+            status: 0,
+            enable: 0x4C
+        }
+    );
     assert!(rt; made(&mut chip, Raise, SLEEP));
-    assert_eq!(rt; chip.words(0), EventWord { status: 0x200, enable: 0x520 });
+    assert_eq!(rt;
+        chip.words(0),
+        EventWord {
+            status: 0x200,
+            enable: 0x520
+        }
+    );
     // GPE 2 is level: after sixteen runs under its line it is parked.
     assert!(rt; made(&mut chip, Assert, LEVEL));
     for _ in 0..16 {
         assert!(rt; made(&mut chip, Claim, LEVEL) && made(&mut chip, Finish, LEVEL));
     }
-    assert_eq!(rt; chip.words(1), EventWord { status: 4, enable: 0x48 });
+    assert_eq!(rt;
+        chip.words(1),
+        EventWord {
+            status: 4,
+            enable: 0x48
+        }
+    );
     for k in 2..17 {
-        assert_eq!(rt; chip.words(k), EventWord { status: 0, enable: 0 });
+        assert_eq!(rt;
+            chip.words(k),
+            EventWord {
+                status: 0,
+                enable: 0
+            }
+        );
     }
 }
 

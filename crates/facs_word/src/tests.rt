@@ -43,7 +43,16 @@ fn a_word_is_acquired_and_released(rt: HostRuntime) {
 
 #[test]
 fn reserved_bits_of_the_lock_stay(rt: HostRuntime) {
-    let reserved = [0, 4, 8, 0x100, 0x1234_5678, 0x7FFF_FFFC, 0x8000_0000, 0xFFFF_FFFC];
+    let reserved = [
+        0,
+        4,
+        8,
+        0x100,
+        0x1234_5678,
+        0x7FFF_FFFC,
+        0x8000_0000,
+        0xFFFF_FFFC,
+    ];
     for high in reserved {
         for low in [0, 1, 2, 3] {
             let word: u32 = high | low;
