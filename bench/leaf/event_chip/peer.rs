@@ -45,7 +45,7 @@ pub struct Slot {
 
 pub struct EventChip {
     slots: Vec<Slot>,
-    pending: [u64; 5],
+    ranks: [u64; 5],
 }
 
 impl EventKind {
@@ -79,7 +79,7 @@ impl EventChip {
         for event in [Some(Event::Fixed(Fixed::Gbl)), controller].into_iter().flatten() {
             slots[rank(event)] = Slot { kind: EventKind::Always, state };
         }
-        EventChip { slots, pending: [0; 5] }
+        EventChip { slots, ranks: [0; 5] }
     }
 
     #[inline]
@@ -95,9 +95,9 @@ impl EventChip {
         let enabled = *kind == EventKind::Always || state.count > 0;
         let parked = *kind == EventKind::Level && state.storm == 16;
         if state.status && enabled && !state.held && !parked {
-            self.pending[rank / 64] |= 1 << (rank % 64);
+            self.ranks[rank / 64] |= 1 << (rank % 64);
         } else {
-            self.pending[rank / 64] &= !(1 << (rank % 64));
+            self.ranks[rank / 64] &= !(1 << (rank % 64));
         }
     }
 
@@ -143,9 +143,27 @@ impl EventChip {
     }
 
     #[inline]
+    pub fn up(&mut self, event: Event) {
+        self.change(event, |_, state| state.count = state.count.saturating_add(1));
+    }
+
+    #[inline]
+    pub fn down(&mut self, event: Event) {
+        self.change(event, |_, state| state.count = state.count.saturating_sub(1));
+    }
+
+    #[inline]
+    pub fn pending(&self, event: Event) -> bool {
+        let Slot { kind, state } = self.slots[rank(event)];
+        let enabled = kind == EventKind::Always || state.count > 0;
+        let parked = kind == EventKind::Level && state.storm == 16;
+        state.status && enabled && !state.held && !parked
+    }
+
+    #[inline]
     pub fn first_pending(&self) -> Option<Event> {
-        let word = self.pending.iter().position(|word| *word != 0)?;
-        let rank = 64 * word + self.pending[word].trailing_zeros() as usize;
+        let word = self.ranks.iter().position(|word| *word != 0)?;
+        let rank = 64 * word + self.ranks[word].trailing_zeros() as usize;
         Some(match rank {
             0 => Event::Fixed(Fixed::Tmr),
             1 => Event::Fixed(Fixed::Gbl),

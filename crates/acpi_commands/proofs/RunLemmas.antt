@@ -9,7 +9,7 @@ use Rattle.machine_desc.specs.Machine.{MachineData}
 use Rattle.machine_history.specs.Complete.{Complete}
 use Rattle.machine_history.specs.Exclusion.{AccessesByOwner, ReadsLast}
 use Rattle.machine_history.specs.Jobs.{jobs}
-use Rattle.machine_history.specs.Once.{JobsOnce, ScriptsOnce}
+use Rattle.history_laws.specs.Once.{JobsOnce, ScriptsOnce}
 use Rattle.machine_history.specs.Sentences.{ClaimsConsume, CodesInOrder, JobsDone, RunsAsGiven, codes_of, out_in}
 use Rattle.machine_history.specs.Wire.{given}
 use Rattle.machine_reader.specs.declared.fault.ReaderFault.{ReaderFault}

@@ -5,7 +5,7 @@ use Rattle.machine_desc.specs.Machine.{MachineData}
 use Rattle.machine_history.specs.Complete.{Complete}
 use Rattle.machine_history.specs.Exclusion.{AccessesByOwner, ReadsLast}
 use Rattle.machine_history.specs.Jobs.{jobs}
-use Rattle.machine_history.specs.Once.{JobsOnce, ScriptsOnce}
+use Rattle.history_laws.specs.Once.{JobsOnce, ScriptsOnce}
 use Rattle.machine_history.specs.Sentences.{ClaimsConsume, JobsDone, codes_of, pushed_in}
 use Rattle.machine_history.specs.Wire.{given}
 use Rattle.machine_reader.specs.Description.{Describes}

@@ -23,8 +23,6 @@ mod replay;
 mod run;
 mod staged;
 mod status;
-#[cfg(test)]
-mod tests;
 
 pub use acpi_regs::{Gate, OpenGate};
 pub use ending::end;

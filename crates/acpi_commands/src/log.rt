@@ -11,10 +11,10 @@ ghost use Rattle.acpi_commands.specs.Check.{IsCompleteLog};
 ghost use Rattle.acpi_commands.specs.Headline.{Ran};
 ghost use Rattle.acpi_commands.specs.Run.{text};
 
-use machine_history::laws::{
-    law_claims_consume, law_codes_in_order, law_complete_legal, law_exclusion, law_jobs_in_order,
-    law_reads_last, law_scripts_once,
+use history_laws::laws::{
+    law_claims_consume, law_codes_in_order, law_jobs_in_order, law_scripts_once,
 };
+use machine_history::laws::{law_complete_legal, law_exclusion, law_reads_last};
 
 /// Of each complete history of a machine that bytes describe every sentence of the headline is true, and its text is a log
 /// that `check` takes for complete.

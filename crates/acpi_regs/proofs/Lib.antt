@@ -1,3 +1,4 @@
+pub mod Codes
 pub mod Exact
 pub mod Halves
 pub mod Latching

@@ -10,5 +10,8 @@ pub mod GeometryParts
 pub mod History
 pub mod Lock
 pub mod Names
+pub mod Packing
 pub mod Phases
 pub mod Places
+pub mod Registers
+pub mod Unpacking

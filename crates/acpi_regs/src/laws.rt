@@ -30,6 +30,7 @@ ghost use Rattle.acpi_regs.specs.contracts.event.FixedOrd.TheImpl as fixed_ord;
 ghost use Rattle.acpi_regs.specs.contracts.event.EventOrd.TheImpl as event_ord;
 ghost use Rattle.acpi_regs.specs.contracts.actor.ActorOrd.TheImpl as actor_ord;
 
+pub mod packing;
 pub mod soundness;
 
 use crate::{

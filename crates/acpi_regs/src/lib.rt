@@ -22,8 +22,11 @@ mod geometry;
 pub mod laws;
 mod memory;
 mod name;
+mod order;
+mod packing;
 mod phase;
 mod recorded;
+mod unpacking;
 
 pub use actor::{Actor, Side};
 pub use entry::{Cell, Deed, Effect, Entry, HostMove, Request};

@@ -36,7 +36,7 @@ use Rattle.machine_history.specs.Scripts.{next_of, plan_left}
 use Rattle.machine_history.specs.Steps.{adds, at_act, at_script, between, otherwise, pulses, waiting, where_may}
 use Rattle.machine_history.specs.Steps as steps
 use Rattle.machine_history.specs.Wire.{codes}
-use Rattle.machine_history.proofs.LastEntries.{gbl_is_status}
+use Rattle.history_laws.proofs.LastEntries.{gbl_is_status}
 use Rattle.machine_history.proofs.Owning.{ended, guarded}
 use Rattle.machine_history.proofs.Stages.{is_owned, stage}
 use Rattle.core_laws.specs.Said.{Reason}

@@ -12,7 +12,7 @@ use Rattle.machine_history.specs.Jobs.{and_job, jobs, made, starts}
 use Rattle.machine_history.specs.Legal.{Allowed, Legal, LegalPast}
 use Rattle.machine_history.specs.Sentences.{code_of, codes_of, out_in}
 use Rattle.machine_history.specs.Wire.{given, open_of}
-use Rattle.machine_history.proofs.CodeOrder.{runs_as_given}
+use Rattle.history_laws.proofs.CodeOrder.{runs_as_given}
 use Rattle.machine_history.proofs.JobCounts.{start_parts}
 use Rattle.machine_history.proofs.Known.{hold}
 use Rattle.core_laws.specs.Codes.{IsFront, code_at, started_codes}

@@ -1,3 +1,4 @@
-mod RankBits
+mod PlaceBits
+mod PlaceOrder
 pub mod Slots
 mod Touches

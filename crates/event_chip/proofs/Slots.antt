@@ -12,9 +12,7 @@ use Rattle.acpi_regs.specs.Event.{event_rank, fixed_rank, same_event}
 use Rattle.event_chip.specs.declared.state.Slot.{Slot}
 use Rattle.event_chip.specs.Chip.{listing, listed_slot, no_slot, slot_of, slot_or, touched}
 use Rattle.event_chip.specs.declared.state.Touch.{Touch}
-use Rattle.event_chip.specs.Kept.{IsKept, IsQuiet}
-use Rattle.event_chip.specs.Ranks.{has}
-use Rattle.event_chip.specs.State.{is_pending}
+use Rattle.event_chip.specs.Kept.{IsQuiet}
 
 fixed_below : (f : Fixed) → fixed_rank f < 5
 fixed_below fixed.Tmr = omega arith
@@ -38,15 +36,6 @@ written slots e s h n = elim (cases_eq (event_rank n) (event_rank e)) [
   | inl x ↦ get_or-set_at slots (event_rank e) (event_rank n) s no_slot x h ∙ sym (rw (same_by_rank e n) (rw (eq-eqb (event_rank e) (event_rank n) (sym x)) refl))
   | inr d ↦ get_or-set_other slots (event_rank e) (event_rank n) s no_slot d ∙ sym (rw (same_by_rank e n) (rw (ne_eqb (event_rank e) (event_rank n) (λ x. d (sym x))) refl))
 ]
-
-pub kept : (slots : List Slot) (words words' : List ℕ) (k : ℕ) (s : Slot) → IsKept slots words → k < 261 → ((n : ℕ) → n < 320 → has words' n ≡ (if n == k then is_pending s.kind s.state else has words n)) → IsKept (slice_set slots k s) words'
-kept slots words words' k s old h set = record {
-  size = length-set slots k s ∙ old.size;
-  pending = λ n l. elim (cases_eq n k) [
-    | inl e ↦ set n l ∙ rw (eq-eqb n k e) (ap (λ x. is_pending x.kind x.state) (sym (get_or-set_at slots k n s no_slot e (let z = old.size in omega arith))))
-    | inr d ↦ set n l ∙ rw (ne_eqb n k d) (old.pending n l ∙ ap (λ x. is_pending x.kind x.state) (sym (get_or-set_other slots k n s no_slot d)))
-  ];
-}
 
 -- a slot at which nothing happened is written
 pub quiet : (slots : List Slot) (k : ℕ) (s : Slot) → k < length slots → s.state.status ≡ false → IsQuiet slots → IsQuiet (slice_set slots k s)

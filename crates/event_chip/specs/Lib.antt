@@ -1,5 +1,6 @@
 pub mod Chip
 pub mod Kept
 pub mod Laws
-pub mod Ranks
+pub mod Places
 pub mod State
+pub mod Words

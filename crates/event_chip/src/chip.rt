@@ -1,9 +1,11 @@
-ghost use Rattle.std.specs.Prelude.{◌≡◌, ◌<◌, ◌||◌, IfOk, ℕ, false, if◌then◌else◌, length, slice_index_or};
+ghost use Rattle.std.specs.Prelude.{◌≡◌, ◌<◌, ◌||◌, IfOk, ℕ, false, if◌then◌else◌, length, slice_index, slice_index_or};
 ghost use Rattle.acpi_regs.specs.Event.{event_rank, is_gbl, same_event};
 ghost use Rattle.event_chip.specs.Chip.{always, first_slot, is_controllers, listing, no_slot, slot_of, slot_or};
-ghost use Rattle.event_chip.specs.Kept.{IsQuiet};
+ghost use Rattle.event_chip.specs.Kept.{IsQuiet, Shows, enables};
+ghost use Rattle.event_chip.specs.Places.{rank_in};
 
-use crate::ranks::Ranks;
+use crate::places::Places;
+use crate::words::Words;
 use crate::{EventKind, Slot, Touch};
 use acpi_regs::{Event, Fixed, Listed, Memory};
 use std::alloc::{AllocError, Global};
@@ -16,8 +18,18 @@ const EVENTS: usize = 261;
 #[derive(Drop)]
 pub struct EventChip {
     slots: Vec<Slot>,
-    // The places, in the order of events, of those that are pending.
-    pending: Ranks,
+    // The status and enable bits of all events, which the slots say too.
+    words: Words,
+}
+
+/// A status word and an enable word: the fixed events by their PM1 bits, or sixteen GPEs (ACPI 6.5, sections 4.8.3.1 and
+/// 4.8.4.1).
+#[derive(Clone, Copy, Debug, PartialEq, Eq)]
+pub struct EventWord {
+    /// The events that have status.
+    pub status: u16,
+    /// The events that are enabled.
+    pub enable: u16,
 }
 
 impl Model for EventChip {
@@ -29,13 +41,15 @@ impl Model for EventChip {
 
     ghost view = { λ c. c.slots.items };
 
-    ghost invariant = { λ c. IsKept c.slots.items c.pending.words };
+    ghost invariant = { λ c. IsKept c.slots.items c.words.status.words c.words.enable.words c.words.summary };
 }
 
 impl EventChip {
     ghost use Rattle.std.specs.Prelude.{true};
     ghost use Rattle.event_chip.specs.Chip.{IsFirst, IsKnown, IsLevel, IsListed, Touches, pends};
+    ghost use Rattle.event_chip.specs.Kept.{enables, is_set};
     ghost use Rattle.event_chip.specs.State.{is_parked};
+    ghost use Rattle.event_chip.specs.Words.{IsWord};
     ghost use Rattle.event_chip.specs.declared.state.Touch.TheVariants as touch;
 
     /// The chip of a machine that lists these events, with the controller's event where it has a controller. Nothing
@@ -48,11 +62,14 @@ impl EventChip {
     ) -> Result<EventChip, Memory>
         ensures { IfOk result (λ chip. (n : Event) → slot_of chip n ≡ first_slot listed.now controller n) }
     {
-        let slots = first_slots(alloc, listed, controller)?;
-        Ok(EventChip {
-            slots,
-            pending: Ranks::new(),
-        })
+        let mut enable = Places::new();
+        let slots = first_slots(alloc, &mut enable, listed, controller)?;
+        let words = Words {
+            status: Places::new(),
+            enable,
+            summary: 0,
+        };
+        Ok(EventChip { slots, words })
     }
 
     /// What is known of an event, and its registers.
@@ -63,16 +80,20 @@ impl EventChip {
     }
 
     /// Touches an event. Each call below is one touch, under the condition on which a machine makes it.
+    #[inline(always)]
     pub fn touch(&mut self, touch: Touch, event: Event)
         ensures { Touches touch event self.old self.new }
     {
         let rank = rank_of(event);
-        let slot = self.slots[rank].after(touch);
-        self.slots[rank] = slot;
-        self.pending.set(rank, slot.is_pending());
+        let slot = self.slots[rank];
+        let after = slot.after(touch);
+        self.slots[rank] = after;
+        let place = usize::from(event.register_place());
+        self.words.follow(touch, place, slot, after);
     }
 
     /// The event happened: its status is set. The chip knows the event, which its `slot` tells.
+    #[inline(always)]
     pub fn raise(&mut self, event: Event)
         requires { IsKnown self.old event }
         ensures { Touches touch.Raise event self.old self.new }
@@ -81,6 +102,7 @@ impl EventChip {
     }
 
     /// The line of a level event (`slot(event).kind.is_level()`) was asserted: its status is set, and runs are counted anew.
+    #[inline(always)]
     pub fn assert_line(&mut self, event: Event)
         requires { IsLevel self.old event }
         ensures { Touches touch.Assert event self.old self.new }
@@ -89,6 +111,7 @@ impl EventChip {
     }
 
     /// The line of a level event (`slot(event).kind.is_level()`) was dropped. Its status stays until the event's run ends.
+    #[inline(always)]
     pub fn drop_line(&mut self, event: Event)
         requires { IsLevel self.old event }
         ensures { Touches touch.Drop event self.old self.new }
@@ -98,6 +121,7 @@ impl EventChip {
 
     /// The OS takes the status of an event that is `pending` for dispatch. A listed event is held; the status is cleared
     /// unless the event is level.
+    #[inline(always)]
     pub fn claim(&mut self, event: Event)
         requires { pends self.old event ≡ true }
         ensures { Touches touch.Claim event self.old self.new }
@@ -107,6 +131,7 @@ impl EventChip {
 
     /// A run of the handler of an event that is held ended: the event is held no longer, and a level status becomes its line. A run that
     /// ends under an asserted line is counted, up to sixteen, and any other sets that count to 0.
+    #[inline(always)]
     pub fn finish(&mut self, event: Event)
         requires { (slot_of self.old event).state.held ≡ true }
         ensures { Touches touch.Finish event self.old self.new }
@@ -115,6 +140,7 @@ impl EventChip {
     }
 
     /// One reference more to a listed event (`slot(event).kind.is_listed()`), up to 255.
+    #[inline(always)]
     pub fn up(&mut self, event: Event)
         requires { IsListed self.old event }
         ensures { Touches touch.Up event self.old self.new }
@@ -123,6 +149,7 @@ impl EventChip {
     }
 
     /// One reference less to a listed event (`slot(event).kind.is_listed()`), down to 0.
+    #[inline(always)]
     pub fn down(&mut self, event: Event)
         requires { IsListed self.old event }
         ensures { Touches touch.Down event self.old self.new }
@@ -131,18 +158,33 @@ impl EventChip {
     }
 
     /// Whether the event has status and is enabled.
+    #[inline(always)]
     pub fn pending(&self, event: Event) -> bool
         ensures { result ≡ pends self.now event }
     {
-        self.slot(event).is_pending()
+        self.words.meets(usize::from(event.register_place()))
     }
 
     /// The first event, in the order in which events are served, that has status and is enabled; `None` exactly where no
     /// event is pending.
+    #[inline(always)]
     pub fn first_pending(&self) -> Option<Event>
         ensures { IsFirst self.now result }
     {
-        Some(event_at(self.pending.least()?))
+        Some(event_in(self.words.first()?))
+    }
+
+    /// The status and enable bits of the fixed events (k is 0) or of GPEs 16 (k - 1) to 16 (k - 1) + 15. Requires k below
+    /// 17. A bit of no event, or of an event that the chip does not know, is 0 in both.
+    pub fn words(&self, k: u8) -> EventWord
+        requires { k < 17 }
+        ensures status { IsWord is_set self.now k result.status }
+        ensures enable { IsWord enables self.now k result.enable }
+    {
+        EventWord {
+            status: self.words.status.words[usize::from(k)],
+            enable: self.words.enable.words[usize::from(k)],
+        }
     }
 
     /// Whether the event's status is set.
@@ -167,20 +209,40 @@ impl EventChip {
     }
 }
 
-/// The slots of a chip at its start.
+/// The slots of a chip at its start, and in `enable`, which is empty before, which events are enabled then.
 fn first_slots(
     alloc: Global,
+    enable: &mut Places,
     listed: &[Listed],
     controller: Option<Event>,
 ) -> Result<Vec<Slot>, AllocError>
+    requires { (k : ℕ) → slice_index enable.old.words k ≡ 0 }
     ensures size { IfOk result (λ slots. length slots.items ≡ 261) }
     ensures quiet { IfOk result (λ slots. IsQuiet slots.items) }
+    ensures bits { IfOk result (λ slots. Shows enables slots.items enable.new.words) }
     ensures slots { IfOk result (λ slots. (n : Event) → slot_of slots.items n ≡ first_slot listed.now controller n) }
 {
     let mut slots = unknown_slots(alloc)?;
-    write_listed(&mut slots, listed);
-    write_always(&mut slots, controller);
+    write_known(&mut slots, enable, listed, controller);
     Ok(slots)
+}
+
+/// Writes the slots of all events that a machine knows, where every slot is that of an unknown event.
+fn write_known(
+    slots: &mut [Slot],
+    enable: &mut Places,
+    listed: &[Listed],
+    controller: Option<Event>,
+)
+    requires size { length slots.old ≡ 261 }
+    requires unknown { (k : ℕ) → slice_index_or slots.old k no_slot ≡ no_slot }
+    requires empty { (k : ℕ) → slice_index enable.old.words k ≡ 0 }
+    ensures quiet { IsQuiet slots.new }
+    ensures bits { Shows enables slots.new enable.new.words }
+    ensures slots { (n : Event) → slot_of slots.new n ≡ first_slot listed.now controller n }
+{
+    write_listed(slots, enable, listed);
+    write_always(slots, enable, controller);
 }
 
 /// The slots of a machine that knows no event.
@@ -192,39 +254,43 @@ fn unknown_slots(alloc: Global) -> Result<Vec<Slot>, AllocError>
 }
 
 /// Writes the slots of the events that are always enabled.
-fn write_always(slots: &mut [Slot], controller: Option<Event>)
+fn write_always(slots: &mut [Slot], enable: &mut Places, controller: Option<Event>)
     requires { length slots.old ≡ 261 }
     ensures quiet { IsQuiet slots.old → IsQuiet slots.new }
+    ensures bits { Shows enables slots.old enable.old.words → Shows enables slots.new enable.new.words }
     ensures slots { (n : Event) → slot_of slots.new n
         ≡ (if is_gbl n || is_controllers controller n then always else slot_of slots.old n) }
 {
     let slot = Slot::fresh(EventKind::Always, 0);
-    write(slots, Event::Fixed(Fixed::Gbl), slot);
+    write(slots, enable, Event::Fixed(Fixed::Gbl), slot);
     if let Some(event) = controller {
-        write(slots, event, slot);
+        write(slots, enable, event, slot);
     }
 }
 
 /// Writes the slots of listed events, the last item first, so that the first that lists an event counts.
-fn write_listed(slots: &mut [Slot], listed: &[Listed])
+fn write_listed(slots: &mut [Slot], enable: &mut Places, listed: &[Listed])
     requires { length slots.old ≡ 261 }
     ensures quiet { IsQuiet slots.old → IsQuiet slots.new }
+    ensures bits { Shows enables slots.old enable.old.words → Shows enables slots.new enable.new.words }
     ensures slots { (n : Event) → slot_of slots.new n ≡ slot_or (listing listed.now n) (slot_of slots.old n) }
 {
     for written in 0..listed.len() {
         let item = &listed[listed.len() - 1 - written];
-        write(slots, item.event, Slot::listed(item));
+        write(slots, enable, item.event, Slot::listed(item));
     }
 }
 
-/// Writes the slot of one event to which nothing happened.
-fn write(slots: &mut [Slot], event: Event, slot: Slot)
+/// Writes the slot and the enable bit of one event to which nothing happened.
+fn write(slots: &mut [Slot], enable: &mut Places, event: Event, slot: Slot)
     requires size { length slots.old ≡ 261 }
     requires fresh { slot.state.status ≡ false }
     ensures quiet { IsQuiet slots.old → IsQuiet slots.new }
+    ensures bits { Shows enables slots.old enable.old.words → Shows enables slots.new enable.new.words }
     ensures slots { (n : Event) → slot_of slots.new n ≡ (if same_event event n then slot else slot_of slots.old n) }
 {
     slots[rank_of(event)] = slot;
+    enable.set(usize::from(event.register_place()), slot.is_enabled());
 }
 
 /// The place of an event in the order in which events are served, from 0 to 260.
@@ -232,27 +298,22 @@ pub fn rank_of(event: Event) -> usize
     ensures value { result ≡ event_rank event }
     ensures bound { result < 261 }
 {
-    match event {
-        Event::Fixed(Fixed::Tmr) => 0,
-        Event::Fixed(Fixed::Gbl) => 1,
-        Event::Fixed(Fixed::Pwr) => 2,
-        Event::Fixed(Fixed::Slp) => 3,
-        Event::Fixed(Fixed::Rtc) => 4,
-        Event::Gpe(number) => 5 + usize::from(number),
-    }
+    usize::from(event.rank())
 }
 
-/// The event at a place of that order.
-fn event_at(rank: usize) -> Event
-    requires { rank < 261 }
-    ensures { event_rank result ≡ rank }
+/// The event whose bit is at a place.
+fn event_in(place: usize) -> Event
+    requires { rank_in place < 261 }
+    ensures { event_rank result ≡ rank_in place }
 {
-    match rank {
+    if place >= 16 {
+        return Event::Gpe((place - 16) as u8);
+    }
+    match place {
         0 => Event::Fixed(Fixed::Tmr),
-        1 => Event::Fixed(Fixed::Gbl),
-        2 => Event::Fixed(Fixed::Pwr),
-        3 => Event::Fixed(Fixed::Slp),
-        4 => Event::Fixed(Fixed::Rtc),
-        _ => Event::Gpe((rank - 5) as u8),
+        5 => Event::Fixed(Fixed::Gbl),
+        8 => Event::Fixed(Fixed::Pwr),
+        9 => Event::Fixed(Fixed::Slp),
+        _ => Event::Fixed(Fixed::Rtc),
     }
 }

@@ -9,10 +9,11 @@
 
 mod chip;
 pub mod laws;
-mod ranks;
+mod places;
 mod state;
+mod words;
 
-pub use chip::{EventChip, rank_of};
+pub use chip::{EventChip, EventWord, rank_of};
 pub use state::{EventKind, EventState, Slot, Touch};
 
 #[cfg(test)]

@@ -1,6 +1,6 @@
 ghost use Rattle.std.specs.Prelude.{◌≡◌};
 ghost use Rattle.event_chip.specs.Chip.{listed_slot, touched};
-ghost use Rattle.event_chip.specs.State.{after, fresh, is_level, is_listed, is_parked, is_pending};
+ghost use Rattle.event_chip.specs.State.{after, fresh, is_enabled, is_level, is_listed, is_parked, is_pending};
 
 use acpi_regs::Listed;
 
@@ -142,8 +142,15 @@ impl Slot {
     pub fn is_pending(self) -> bool
         ensures { result ≡ is_pending self.kind self.state }
     {
+        self.state.status && self.is_enabled()
+    }
+
+    /// Whether the event is enabled: it has a reference or needs none, it is not held, and it is not parked.
+    pub fn is_enabled(self) -> bool
+        ensures { result ≡ is_enabled self.kind self.state }
+    {
         let counted = matches!(self.kind, EventKind::Always) || self.state.count > 0;
-        self.state.status && counted && !self.state.held && !self.is_parked()
+        counted && !self.state.held && !self.is_parked()
     }
 
     /// Whether sixteen runs in a row ended under an asserted line.

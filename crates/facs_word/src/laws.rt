@@ -1,13 +1,18 @@
-//! Laws over the definitions of this crate. A law is a function with nothing to do, whose contract says it.
+//! Laws over the definitions of this crate. A law is a function with an empty body, whose contract states it.
 ghost use Rattle.std.specs.Prelude.{◌≡◌, ◌≤◌, ◌↔◌, List, ℕ, IsTrue, Ok};
 ghost use Rattle.facs_word.specs.Table.{ReadsBack, fresh_table, lock_of, reads};
-ghost use Rattle.facs_word.specs.Word.{HasBits};
+ghost use Rattle.facs_word.specs.Word.{HasBits, KeepsReserved};
 
 use crate::FacsFault;
 
 /// The four values of the word are those of its two bits.
 pub fn law_word_bits()
     ensures { (word : ℕ) → word ≤ 3 → HasBits word }
+{}
+
+/// An attempt and a release change the two bits of the lock, and keep every reserved bit.
+pub fn law_keeps_reserved()
+    ensures { (word : ℕ) → KeepsReserved word }
 {}
 
 /// A table that was read is written as the first 64 bytes that it was read from, and these read as that table.
@@ -21,7 +26,7 @@ pub fn law_fresh()
     ensures free { lock_of fresh_table ≡ 0 }
 {}
 
-/// Two faults are equal exactly where `==` says so.
+/// Two faults are equal exactly if `==` says so.
 pub fn law_same_fault(one: FacsFault, other: FacsFault) -> bool
     ensures { IsTrue result ↔ one ≡ other }
 {

@@ -12,8 +12,9 @@ use Rattle.acpi_regs.specs.Core.{Core}
 use Rattle.acpi_regs.specs.CoreEvents.{Exchange, Load, Release, exchanged, loaded, tried}
 use Rattle.acpi_regs.specs.CoreSound.{CoreSound, is_word}
 use Rattle.acpi_regs.specs.Phases.{Lock, put}
+use Rattle.acpi_regs.proofs.Halves.{by_word}
 use Rattle.acpi_regs.proofs.PinSteps.{core_known_step}
-use Rattle.facs_word.specs.Word.{acquired, is_pending}
+use Rattle.facs_word.specs.Word.{acquired, is_pending, released}
 use Rattle.lock_table.specs.declared.view.Occupant.TheVariants as who
 use Rattle.lock_table.specs.declared.view.Part.{Part}
 use Rattle.lock_table.specs.declared.view.SeatPhase.TheVariants as kept
@@ -36,6 +37,10 @@ is_exchanged c a l at = ap (λ q. exchanged c a (loaded q)) at ∙ by_test (c.wo
 either_is : (b : Bool) (x y : ℕ) → either b x y ≡ cond b x y
 either_is true x y = refl
 either_is false x y = refl
+
+-- the table's word has no reserved bits, so it is 0 once it is released
+frees : (w : ℕ) → is_word w ≡ true → released w ≡ 0
+frees w good = by_word w (λ v. released v ≡ 0) good refl refl refl
 
 module _ {B X : Type 0} (lists : X → List (List Event)) (base : B → X) (entries : B → List Entry) (key : B) where
   abbrev Rule : State (Option B) View → Type 0
@@ -111,6 +116,7 @@ module _ {B X : Type 0} (lists : X → List (List Event)) (base : B → X) (entr
           (keeps_one lists base entries key s h id x.0 p at one (kept.Lock (lock.Gone (is_pending n))) (p.tried + 1) n p.loaded p.swept (Lock (lock.Gone (is_pending h.core.word)))
           (ap (λ w. Lock (lock.Gone (is_pending w))) (found s h))
           0 h.pins h.core.pins (set s.words 1 0) h.five h.pinned
-          (core_known_step (lists (base key)) h.core (Release p.actor) tt h.sound a_phase)
+          (subst (λ w. CoreSound (lists (base key)) (record h.core { word = w; phases = put p.actor (Lock (lock.Gone (is_pending h.core.word))) h.core.phases }))
+          (frees h.core.word h.sound.lock.agree.good) (core_known_step (lists (base key)) h.core (Release p.actor) tt h.sound a_phase))
           (λ _. refl)
           (ap (λ ws. set ws 1 0) h.words))

@@ -7,7 +7,6 @@ pub mod Jobs
 pub mod Last
 pub mod Legal
 pub mod Machine
-pub mod Once
 pub mod Played
 pub mod Scripts
 pub mod Sentences

@@ -14,7 +14,7 @@ use Rattle.machine_history.specs.Jobs.{jobs, made, starts}
 use Rattle.machine_history.specs.Legal.{LegalPast}
 use Rattle.machine_history.specs.Sentences.{codes_of, out_in, push_by, pushed_in}
 use Rattle.machine_history.specs.Wire.{given}
-use Rattle.machine_history.proofs.CodeOrder.{codes-grown, job_codes, pushed-push, runs_of_past, same_codes}
+use Rattle.history_laws.proofs.CodeOrder.{codes-grown, job_codes, pushed-push, runs_of_past, same_codes}
 use Rattle.machine_history.proofs.Codes.{code_jobs_in, code_price}
 use Rattle.machine_history.proofs.JobCounts.{made_in, made_worth, started_is, waits}
 use Rattle.machine_history.proofs.Paying.{started}

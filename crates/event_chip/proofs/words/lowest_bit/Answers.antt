@@ -1,0 +1,9 @@
+use Rattle.std.proofs.Common.{w16}
+use Rattle.std.proofs.lemmas.Nat.Bits.{bit_at-trailing_zeros}
+use Rattle.event_chip.proofs.words.lowest_bit.Goals as goal
+
+pub returns-clause-is_set : goal.returns-clause-is_set
+returns-clause-is_set c = (bit_at-trailing_zeros w16 c.args.word c.requires c.ranges.word.fits).1
+
+pub returns-clause-below : goal.returns-clause-below
+returns-clause-below c = (bit_at-trailing_zeros w16 c.args.word c.requires c.ranges.word.fits).2

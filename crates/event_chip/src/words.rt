@@ -1,0 +1,206 @@
+//! The status and enable bits of all events, and which words share a bit.
+ghost use Rattle.std.specs.Prelude.{◌≡◌, ℕ, ◌<◌, ◌==◌, false, if◌then◌else◌};
+ghost use Rattle.std.specs.Int.{bit_at};
+ghost use Rattle.event_chip.specs.Chip.{touched};
+ghost use Rattle.event_chip.specs.Kept.{enables, is_set};
+ghost use Rattle.event_chip.specs.Places.{IsFirstPlace, IsSummary, has, meets, one, shares};
+ghost use Rattle.event_chip.specs.declared.state.Touch.TheVariants as touch;
+
+use crate::places::Places;
+use crate::{Slot, Touch};
+
+/// The status and enable bits of all events by their places, with a summary whose bit k says that word k has a bit set in
+/// both. So the first event that is pending is found by two counts of trailing zeros.
+#[derive(Clone, Copy, Debug)]
+pub struct Words {
+    pub status: Places,
+    pub enable: Places,
+    pub summary: u32,
+}
+
+impl Words {
+    /// Says in the summary whether the words k share a bit.
+    #[inline(always)]
+    fn sum_up(&mut self, k: usize)
+        requires { k < 17 }
+        ensures status { self.new.status.words ≡ self.old.status.words }
+        ensures enable { self.new.enable.words ≡ self.old.enable.words }
+        ensures marks { (j : ℕ) → j < 32
+            → bit_at self.new.summary j ≡ (if j == k then one (shares self.old.status.words self.old.enable.words k) else bit_at self.old.summary j) }
+    {
+        let shared = self.status.words[k] & self.enable.words[k];
+        self.summary = marked(self.summary, k, shared != 0);
+    }
+
+    /// Writes the two bits of a place.
+    #[inline(always)]
+    fn put(&mut self, place: usize, status: bool, enable: bool)
+        requires { place < 272 }
+        ensures status { (n : ℕ) → n < 272
+            → has self.new.status.words n ≡ (if n == place then status else has self.old.status.words n) }
+        ensures enable { (n : ℕ) → n < 272
+            → has self.new.enable.words n ≡ (if n == place then enable else has self.old.enable.words n) }
+        ensures summary { IsSummary self.old.status.words self.old.enable.words self.old.summary
+            → IsSummary self.new.status.words self.new.enable.words self.new.summary }
+    {
+        self.status.set(place, status);
+        self.enable.set(place, enable);
+        self.sum_up(place / 16);
+    }
+
+    /// Writes the status bit of a place, if it changes.
+    #[inline(always)]
+    fn put_status(&mut self, place: usize, changes: bool, is: bool)
+        requires place { place < 272 }
+        requires stays { changes ≡ false → has self.old.status.words place ≡ is }
+        ensures status { (n : ℕ) → n < 272
+            → has self.new.status.words n ≡ (if n == place then is else has self.old.status.words n) }
+        ensures enable { self.new.enable.words ≡ self.old.enable.words }
+        ensures summary { IsSummary self.old.status.words self.old.enable.words self.old.summary
+            → IsSummary self.new.status.words self.new.enable.words self.new.summary }
+    {
+        if changes {
+            self.status.set(place, is);
+            self.sum_up(place / 16);
+        }
+    }
+
+    /// Writes the enable bit of a place, if it changes.
+    #[inline(always)]
+    fn put_enable(&mut self, place: usize, changes: bool, is: bool)
+        requires place { place < 272 }
+        requires stays { changes ≡ false → has self.old.enable.words place ≡ is }
+        ensures status { self.new.status.words ≡ self.old.status.words }
+        ensures enable { (n : ℕ) → n < 272
+            → has self.new.enable.words n ≡ (if n == place then is else has self.old.enable.words n) }
+        ensures summary { IsSummary self.old.status.words self.old.enable.words self.old.summary
+            → IsSummary self.new.status.words self.new.enable.words self.new.summary }
+    {
+        if changes {
+            self.enable.set(place, is);
+            self.sum_up(place / 16);
+        }
+    }
+
+    /// Writes what a claim changes. A listed event is held, so it is no longer enabled.
+    #[inline(always)]
+    fn claim(&mut self, place: usize, old: Slot, new: Slot)
+        requires place { place < 272 }
+        requires status { has self.old.status.words place ≡ is_set old }
+        requires touched { new ≡ touched touch.Claim old }
+        ensures status { (n : ℕ) → n < 272
+            → has self.new.status.words n ≡ (if n == place then is_set new else has self.old.status.words n) }
+        ensures enable { (n : ℕ) → n < 272
+            → has self.new.enable.words n ≡ (if n == place then enables new else has self.old.enable.words n) }
+        ensures summary { IsSummary self.old.status.words self.old.enable.words self.old.summary
+            → IsSummary self.new.status.words self.new.enable.words self.new.summary }
+    {
+        if old.kind.is_level() {
+            self.put_enable(place, true, false);
+        } else if old.kind.is_listed() {
+            self.put(place, false, false);
+        } else {
+            self.put(place, false, new.is_enabled());
+        }
+    }
+
+    /// Writes what a finish changes. Only the status of a level event does.
+    #[inline(always)]
+    fn finish(&mut self, place: usize, old: Slot, new: Slot)
+        requires place { place < 272 }
+        requires status { has self.old.status.words place ≡ is_set old }
+        requires touched { new ≡ touched touch.Finish old }
+        ensures status { (n : ℕ) → n < 272
+            → has self.new.status.words n ≡ (if n == place then is_set new else has self.old.status.words n) }
+        ensures enable { (n : ℕ) → n < 272
+            → has self.new.enable.words n ≡ (if n == place then enables new else has self.old.enable.words n) }
+        ensures summary { IsSummary self.old.status.words self.old.enable.words self.old.summary
+            → IsSummary self.new.status.words self.new.enable.words self.new.summary }
+    {
+        if old.kind.is_level() {
+            self.put(place, new.state.status, new.is_enabled());
+        } else {
+            self.put_enable(place, true, new.is_enabled());
+        }
+    }
+
+    /// Writes what a touch changes of an event's two bits.
+    #[inline(always)]
+    pub fn follow(&mut self, touch: Touch, place: usize, old: Slot, new: Slot)
+        requires place { place < 272 }
+        requires status { has self.old.status.words place ≡ is_set old }
+        requires enable { has self.old.enable.words place ≡ enables old }
+        requires touched { new ≡ touched touch old }
+        ensures status { (n : ℕ) → n < 272
+            → has self.new.status.words n ≡ (if n == place then is_set new else has self.old.status.words n) }
+        ensures enable { (n : ℕ) → n < 272
+            → has self.new.enable.words n ≡ (if n == place then enables new else has self.old.enable.words n) }
+        ensures summary { IsSummary self.old.status.words self.old.enable.words self.old.summary
+            → IsSummary self.new.status.words self.new.enable.words self.new.summary }
+    {
+        match touch {
+            Touch::Raise => self.put_status(place, !old.state.status, true),
+            Touch::Assert => {
+                self.put_status(place, !old.state.status, true);
+                self.put_enable(place, old.is_parked(), new.is_enabled());
+            }
+            Touch::Drop => self.put_enable(place, old.is_parked(), new.is_enabled()),
+            Touch::Claim => self.claim(place, old, new),
+            Touch::Finish => self.finish(place, old, new),
+            Touch::Up => self.put_enable(place, old.state.count == 0, new.is_enabled()),
+            Touch::Down => self.put_enable(place, old.state.count == 1, new.is_enabled()),
+        }
+    }
+
+    /// Whether the bit of a place is set in both.
+    #[inline(always)]
+    pub fn meets(&self, place: usize) -> bool
+        requires { place < 272 }
+        ensures { result ≡ meets self.now.status.words self.now.enable.words place }
+    {
+        let shared = self.status.words[place / 16] & self.enable.words[place / 16];
+        (shared >> (place % 16)) & 1 == 1
+    }
+
+    /// The first place whose bit is set in both.
+    pub fn first(&self) -> Option<usize>
+        requires { IsSummary self.now.status.words self.now.enable.words self.now.summary }
+        ensures { IsFirstPlace self.now.status.words self.now.enable.words result }
+    {
+        if self.summary == 0 {
+            return None;
+        }
+        let word = lowest_mark(self.summary);
+        let shared = self.status.words[word] & self.enable.words[word];
+        Some(16 * word + lowest_bit(shared))
+    }
+}
+
+/// The summary with one bit set or cleared.
+fn marked(summary: u32, bit: usize, is_in: bool) -> u32
+    requires { bit < 32 }
+    ensures { (i : ℕ) → i < 32 → bit_at result i ≡ (if i == bit then one is_in else bit_at summary i) }
+{
+    let mask = 1 << bit;
+    if is_in { summary | mask } else { summary & !mask }
+}
+
+/// The place of the lowest bit that is set.
+fn lowest_mark(summary: u32) -> usize
+    requires { 0 < summary }
+    ensures within { result < 32 }
+    ensures is_set { bit_at summary result ≡ 1 }
+    ensures below { (i : ℕ) → i < result → bit_at summary i ≡ 0 }
+{
+    summary.trailing_zeros() as usize
+}
+
+/// The place of the lowest bit that is set.
+fn lowest_bit(word: u16) -> usize
+    requires { 0 < word }
+    ensures within { result < 16 }
+    ensures is_set { bit_at word result ≡ 1 }
+    ensures below { (i : ℕ) → i < result → bit_at word i ≡ 0 }
+{
+    word.trailing_zeros() as usize
+}

@@ -1,0 +1,11 @@
+use Rattle.std.proofs.Common.{◌≡◌, map}
+use Rattle.machine_desc.specs.Actors.{actors_of}
+use Rattle.sci_threads.specs.Actors.{IsSound, core_in, who}
+use Rattle.gate_lengths.proofs.answer.Given as goal
+
+abbrev pub invariant-loop : goal.invariant-loop
+invariant-loop l = record {
+  machine : l.world.board.machine ≡ l.machine;
+  actors : map who l.actors.items ≡ actors_of l.machine;
+  sound : IsSound l.machine (core_in l.world l.actors.items);
+}

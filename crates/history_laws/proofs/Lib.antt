@@ -1,0 +1,6 @@
+pub mod ActsOnce
+pub mod CodeOrder
+pub mod Consuming
+pub mod JobOrder
+pub mod LastEntries
+pub mod Parking

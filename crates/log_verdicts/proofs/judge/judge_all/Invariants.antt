@@ -1,5 +1,0 @@
-use Rattle.std.proofs.Common.{length}
-use Rattle.log_verdicts.proofs.judge.judge_all.Given as goal
-
-abbrev pub decreases-loop-case : goal.decreases-loop-case
-decreases-loop-case g l = length l.left

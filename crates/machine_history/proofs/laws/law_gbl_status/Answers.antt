@@ -1,5 +1,0 @@
-use Rattle.machine_history.proofs.LastEntries.{gbl_is_status}
-use Rattle.machine_history.proofs.laws.law_gbl_status.Goals as goal
-
-pub returns : goal.returns
-returns c = gbl_is_status

@@ -1,8 +1,0 @@
-use Rattle.machine_history.proofs.JobOrder.{jobs_done, jobs_in_order}
-use Rattle.machine_history.proofs.laws.law_jobs_in_order.Goals as goal
-
-pub returns-clause-legal : goal.returns-clause-legal
-returns-clause-legal c = jobs_in_order
-
-pub returns-clause-complete : goal.returns-clause-complete
-returns-clause-complete c = jobs_done

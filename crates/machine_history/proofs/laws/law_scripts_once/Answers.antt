@@ -1,8 +1,0 @@
-use Rattle.machine_history.proofs.ActsOnce.{jobs_once, scripts_once}
-use Rattle.machine_history.proofs.laws.law_scripts_once.Goals as goal
-
-pub returns-clause-firmware : goal.returns-clause-firmware
-returns-clause-firmware c = scripts_once
-
-pub returns-clause-jobs : goal.returns-clause-jobs
-returns-clause-jobs c = jobs_once
