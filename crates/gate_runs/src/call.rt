@@ -65,7 +65,7 @@ fn numbers(alloc: Global, number: Option<u64>) -> Result<Vec<u64>, AllocError> {
     Ok(numbers)
 }
 
-/// The words of a line. Where it has quotes, what stands between them is the words.
+/// The words of a line. If it has quotes, the words are what stands between them.
 fn words_of(alloc: Global, line: &str) -> Result<Vec<String>, AllocError> {
     if line.contains("\"") {
         quoted_words(alloc, line)

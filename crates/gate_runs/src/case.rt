@@ -4,20 +4,20 @@ use crate::input::{Input, Texts};
 use crate::telling::Telling;
 use std::alloc::{AllocError, Global};
 
-/// The room of a sink, in bytes, where a case names none.
+/// How many bytes a sink takes if the case does not say.
 const ROOM: usize = 1_048_576;
 
-/// The most bytes of a call of a source or a sink, where a case names none.
+/// The most bytes that a call of a source or a sink moves if the case does not say.
 const MOST: usize = 65_536;
 
 /// Which calls are made for each words and each `most`.
 #[derive(Clone, Copy)]
 pub enum Series {
-    /// The same call so often.
+    /// The same call, this many times.
     Times(u64),
-    /// Calls in which a read fails, each of them in turn, and one in which none does.
+    /// Calls in which a read fails, each read in turn, and one in which none does.
     EachRead,
-    /// The same of the writes.
+    /// The same with the writes.
     EachWrite,
     /// A call for every proper front of the input.
     EachFront,
@@ -134,7 +134,7 @@ impl Case {
     }
 }
 
-/// The number that a text is, and 0 where it is none.
+/// The number that a text is, or 0 if it is none.
 pub fn number(text: &str) -> u64 {
     text.parse::<u64>().unwrap_or(0)
 }

@@ -1,4 +1,4 @@
-//! The answers to the calls of a case, those that follow on each other and are the same counted together.
+//! The answers to the calls of a case: equal ones in a row are counted together.
 
 use std::alloc::{AllocError, Global};
 
@@ -36,7 +36,7 @@ impl Kind {
 #[derive(Drop)]
 pub struct Groups {
     alloc: Global,
-    /// What is written of the groups that are complete.
+    /// The text of the complete groups.
     text: String,
     /// The kind of the calls of the last group, its answer, and how many calls it has.
     kind: Kind,
@@ -67,7 +67,7 @@ impl Groups {
         Ok(())
     }
 
-    /// What is written of all answers.
+    /// The text of all groups.
     pub fn into_text(mut self) -> Result<String, AllocError> {
         self.complete()?;
         let Groups { text, .. } = self;

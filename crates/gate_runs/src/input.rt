@@ -39,13 +39,13 @@ impl Texts {
 /// The input of a case while its lines are read.
 #[derive(Drop)]
 pub struct Input {
-    /// The text up to the line that was replaced last; without such a line, all of it.
+    /// The text up to the line that was removed last, or all of it.
     front: String,
     /// The text after that line.
     back: String,
     /// How the text was made, if a maker made it.
     made: Option<Made>,
-    /// The lines of the table that name no text and no line, up to now.
+    /// Complaints about options that name no text or no line.
     faults: String,
 }
 
@@ -65,7 +65,7 @@ impl Input {
         self.made
     }
 
-    /// What is wrong with the table here; nothing as a rule.
+    /// The complaints about the table, each a line.
     pub fn faults(&self) -> &str {
         self.faults.as_str()
     }
@@ -103,7 +103,7 @@ impl Input {
         self.front.push('\n')
     }
 
-    /// Takes this line away, which is not the first.
+    /// Removes this line, which is not the first.
     pub fn remove(&mut self, alloc: Global, line: &str) -> Result<(), AllocError> {
         let text = self.text(alloc)?;
         let whole = format!(in alloc; "\n{line}\n")?;
@@ -117,13 +117,13 @@ impl Input {
         }
     }
 
-    /// Puts a line where the last one was taken away.
+    /// Puts a line where the last one was removed.
     pub fn put(&mut self, line: &str) -> Result<(), AllocError> {
         self.front.push_str(line)?;
         self.end_line()
     }
 
-    /// Keeps the first lines alone.
+    /// Keeps only the first lines.
     pub fn cut(&mut self, alloc: Global, lines: usize) -> Result<(), AllocError> {
         let text = self.text(alloc)?;
         self.front = String::new(alloc);

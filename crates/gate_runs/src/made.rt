@@ -2,7 +2,7 @@
 
 use std::alloc::{AllocError, Global};
 
-/// How many fields a large description has, in the first of each sixteen cells one.
+/// How many fields a large description has: one in the first of each sixteen cells.
 const FIELDS: u32 = 256;
 
 /// How many cells its region has, and how many writes its script.
@@ -11,9 +11,9 @@ const CELLS: u32 = 4096;
 /// An input that is made.
 #[derive(Clone, Copy)]
 pub enum Made {
-    /// So many blanks.
+    /// This many blanks.
     Spaces(usize),
-    /// A description whose one script has so many operations, at least one, each a write of 1 to the same byte.
+    /// A description with one script of this many operations, at least one, each a write of 1 to the same byte.
     Writes(u32),
     /// A description with one region of 4,096 cells, each with its byte, and 256 fields; with firmware, it has one script of
     /// 4,096 writes of the greatest value.
@@ -49,7 +49,7 @@ impl Made {
         }
     }
 
-    /// The log that a run of the input must have behind the machine's line; none where it is no description.
+    /// The log that a run of the input must have after the machine's line, if the input is a description.
     pub fn log(self, alloc: Global) -> Result<Option<String>, AllocError> {
         match self {
             Made::Spaces(_) => Ok(None),

@@ -7,30 +7,29 @@
 //! | option | what it says |
 //! |---|---|
 //! | `words: make 0 1` | the words of the program: with blanks between them, or each in quotes. Calls are made for each such line |
-//! | `input:` | the lines below it are what the source gives, with no newline at the end |
+//! | `input:` | the source gives the lines below, with no newline at the end |
 //! | `input: NAME` | the source gives the text of this name, or one that is made (`made.rt`): `spaces N`, `writes N`, `large` |
 //! | `log: NAME` | the same text with a newline at the end |
-//! | `without: LINE`, `put: LINE` | takes this line of the text away; puts one, or several, in its place |
+//! | `without: LINE`, `put: LINE` | removes this line of the text; puts one, or several, in its place |
 //! | `lines: N` | keeps its first lines |
-//! | `most: 1 7` | how many bytes a call of the source or of the sink moves at most. Calls are made for each number |
+//! | `most: 1 7` | the most bytes that a call of the source or of the sink moves. Calls are made for each number |
 //! | `room: N` | how many bytes the sink takes |
-//! | `failing read: N`, `failing write: N` | the call of the source, or of the sink, that fails, from 0 |
-//! | `each failing read`, `each failing write` | calls of the program with 0, 1 and so on as this number, up to one that nothing reaches |
+//! | `failing read: N`, `failing write: N` | the call of the source, or of the sink, that fails, counted from 0 |
+//! | `each failing read`, `each failing write` | calls of the program with the numbers 0, 1 and so on, up to the first in which none fails |
 //! | `each front` | a call for every proper front of the input |
-//! | `times: N` | the same call so often |
+//! | `times: N` | the same call N times |
 //! | `meeting` | the first firmware and the first worker wait for each other at their first steps |
 //! | `picked: WORDS` | of a log, the lines in which one of these words stands |
-//! | `sorted: WORDS` | behind them, in the order of their bytes, those in which one of these stands |
+//! | `sorted: WORDS` | after them, in the order of their bytes, the lines in which one of these stands |
 //! | `without actors` | the lines have no actors |
 //! | `checked` | the log is given to `check` |
-//! | `writes below: N` | whether the sink was called less often |
+//! | `writes below: N` | whether the sink was called fewer than N times |
 //!
-//! For each case its name is written, and what its calls answer: a refusal with its code, how often the sink was called, and
-//! what it holds; or the text that was written. A log's first line is left out where it is `machine ` and the input. Answers that
-//! follow on each other and are the same are written once, with their number. So a call that answers otherwise than its
-//! neighbours is seen.
+//! For each case the program prints its name and the answers to its calls: a refusal with its code, how often the sink was
+//! called, and what it holds; or the text that was written. A log's first line is omitted if it is `machine ` and the input. Equal
+//! answers in a row are printed once, with their number, so a call with another answer is seen at its place.
 //!
-//! At the end stands each status with its code and text.
+//! Each status follows at the end, with its code, its text and what `end` writes.
 #![tactic(auto)]
 
 mod call;

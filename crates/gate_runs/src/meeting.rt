@@ -46,7 +46,7 @@ impl Meeting {
         }
     }
 
-    /// What is said of a gate at which the two waited; nothing of another.
+    /// What is printed of a gate at which the two waited.
     pub fn report(&self) -> Option<&'static str> {
         let firmware = self.firmware.load(Ordering::SeqCst);
         let worker = self.worker.load(Ordering::SeqCst);

@@ -10,7 +10,7 @@ use std::thread::Threads;
 /// The most calls in which a read or a write fails in turn.
 const MOST_CALLS: u64 = 65_536;
 
-/// Makes the calls of a case, and answers what is written of them.
+/// Makes the calls of a case, and returns what is printed of them.
 pub fn play<R: Threads + Sync>(rt: &R, alloc: Global, case: &Case) -> Result<String, AllocError> {
     let mut groups = Groups::new(alloc);
     let input = case.input.text(alloc)?;
@@ -54,7 +54,7 @@ fn play_words<R: Threads + Sync>(
     Ok(())
 }
 
-/// Makes the calls of a series, each of them this one but for what the series says.
+/// Makes the calls of a series: each is this call, except for what the series changes.
 fn play_series<R: Threads + Sync>(
     rt: &R,
     alloc: Global,
@@ -89,7 +89,7 @@ fn play_times<R: Threads + Sync>(
     Ok(())
 }
 
-/// What is written of the answer to a call of a case.
+/// What is printed of the answer to a call of a case.
 fn answer(
     alloc: Global,
     case: &Case,
@@ -154,8 +154,8 @@ fn play_each_write<R: Threads + Sync>(
     Ok(())
 }
 
-/// Whether the write of this number was the last, and the sink holds of the whole text what the writes before took, so many
-/// bytes each.
+/// Whether the write of this number was the last, and the sink holds what the writes before it took: a front of the whole text,
+/// of `most` bytes for each of them.
 fn has_front(outcome: &Outcome, whole: &Outcome, number: u64, most: usize) -> bool {
     let held = outcome.sink.held();
     outcome.sink.writes() == number.saturating_add(1)
@@ -183,7 +183,7 @@ fn play_each_front<R: Threads + Sync>(
     Ok(())
 }
 
-/// What `check` says of the log that a call wrote, but for the number of its entries, where that is right.
+/// What `check` says of the log that a call wrote. The number of its entries is not printed if it is right.
 fn verdict<R: Threads + Sync>(
     rt: &R,
     alloc: Global,

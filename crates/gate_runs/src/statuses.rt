@@ -1,4 +1,4 @@
-//! Each status with its code, its text, and what `end` makes of it.
+//! Each status with its code, its text, and what `end` writes of it.
 
 use acpi_commands::{Status, end};
 use acpi_io::MemorySink;
@@ -50,7 +50,7 @@ fn statuses() -> [Status; 12] {
     ]
 }
 
-/// What `end` writes, and whether it gives the status's code, also where it can write nothing.
+/// What `end` writes, and whether it returns the status's code, also if the sink is full.
 fn said_of(alloc: Global, status: &Status) -> Result<String, AllocError> {
     let Ok(mut errors) = MemorySink::new(alloc, Vec::new(alloc), 7, 128) else {
         return Err(AllocError);

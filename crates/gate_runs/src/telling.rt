@@ -1,4 +1,4 @@
-//! What is written of the answer to a call.
+//! What is printed of the answer to a call.
 
 use crate::call::{Call, Outcome};
 use crate::case::number;
@@ -6,25 +6,25 @@ use crate::made::Made;
 use acpi_commands::Status;
 use std::alloc::{AllocError, Global};
 
-/// What is written of an answer.
+/// What is printed of an answer.
 #[derive(Drop)]
 pub struct Telling {
-    /// Lines of a log in which one of these words stands are written; all lines, where no words are given here or below.
+    /// Lines of a log in which one of these words stands are printed; all lines, if no words are given here or below.
     picked: String,
-    /// Behind them, in the order of their bytes, those in which one of these words stands.
+    /// After them, in the order of their bytes, the lines in which one of these words stands.
     sorted: String,
-    /// Whether the lines are written without their actors.
+    /// Whether the lines are printed without their actors.
     without_actors: bool,
-    /// Where it is given, the sink must have been called less often.
+    /// The sink must have been called fewer times than this, if it is given.
     writes_below: Option<u64>,
     /// Whether the log is judged.
     checked: bool,
-    /// The options that are none.
+    /// A complaint about an option that does not exist.
     faults: String,
 }
 
 impl Telling {
-    /// All of a log is written.
+    /// All of a log is printed.
     pub fn new(alloc: Global) -> Telling {
         Telling {
             picked: String::new(alloc),
@@ -54,12 +54,12 @@ impl Telling {
         self.checked
     }
 
-    /// What is wrong with the table here; nothing as a rule.
+    /// The complaints about the table, each a line.
     pub fn faults(&self) -> &str {
         self.faults.as_str()
     }
 
-    /// What is written of a call, each line with its newline.
+    /// What is printed of a call, each line with its newline.
     pub fn answer(
         &self,
         alloc: Global,
@@ -80,7 +80,7 @@ impl Telling {
         Ok(answer)
     }
 
-    /// What is written of a text that the program wrote: of a log the lines behind the machine's, where that has the input.
+    /// What is printed of a text that the program wrote: of a log the lines after the machine's, if that one has the input.
     fn accepted(
         &self,
         alloc: Global,
@@ -99,7 +99,7 @@ impl Telling {
         }
     }
 
-    /// The lines that are picked, and behind them those that are sorted.
+    /// The lines that are picked, and after them those that are sorted.
     fn lines(&self, alloc: Global, entries: &str) -> Result<String, AllocError> {
         if self.picked.is_empty() && self.sorted.is_empty() {
             return self.all_lines(alloc, entries);
@@ -142,7 +142,7 @@ impl Telling {
         Ok(lines)
     }
 
-    /// Says whether the sink was called less often than it must be.
+    /// Adds whether the sink was called few enough times.
     fn add_writes(
         &self,
         alloc: Global,
@@ -160,7 +160,7 @@ impl Telling {
     }
 }
 
-/// What is written of a refusal: its text, its code, how often the sink was called, and what it then holds.
+/// What is printed of a refusal: its text, its code, how often the sink was called, and what it holds.
 fn refused(alloc: Global, outcome: &Outcome, held: &str) -> Result<String, AllocError> {
     let status = &outcome.status;
     let code = status.code();
@@ -170,7 +170,7 @@ fn refused(alloc: Global, outcome: &Outcome, held: &str) -> Result<String, Alloc
     }
 }
 
-/// What is written of the log of an input that was made: its last line, where the whole log is as it must be.
+/// What is printed of the log of an input that was made: its last line, if the whole log is as it must be.
 fn as_made(alloc: Global, made: Made, entries: &str) -> Result<String, AllocError> {
     match made.log(alloc)? {
         Some(log) if log.as_str() == entries => {
