@@ -76,9 +76,9 @@ fits_request kind bytes w h =
 fits_move : (kind byte w : ℕ) → w ≡ kind + 256 * byte → Fits HostMove IsMove move_code w (move_at kind byte)
 fits_move kind byte w h =
     below byte 256 (λ l.
-      at kind 0 (λ e. some {x = host.Sc byte} l (omega (arith, e, h))) (λ _.
-      at kind 1 (λ e. some {x = host.Data byte} l (omega (arith, e, h))) (λ _.
-      at kind 2 (λ e. some {x = host.Get byte} l (omega (arith, e, h))) (λ _. none)))) (λ _. none)
+    at kind 0 (λ e. some {x = host.Sc byte} l (omega (arith, e, h))) (λ _.
+    at kind 1 (λ e. some {x = host.Data byte} l (omega (arith, e, h))) (λ _.
+    at kind 2 (λ e. some {x = host.Get byte} l (omega (arith, e, h))) (λ _. none)))) (λ _. none)
 
 fits_effect : (kind byte w : ℕ) → w ≡ kind + 256 * byte → Fits Effect IsEffect effect_code w (effect_at kind byte)
 fits_effect kind byte w h =

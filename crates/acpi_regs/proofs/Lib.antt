@@ -9,3 +9,4 @@ pub mod LockTurns
 pub mod Names
 pub mod PinSteps
 pub mod Pins
+pub mod Small

@@ -24,11 +24,11 @@ both x p q = cc
 
 -- ---- a sum in which one part changed
 
-sum_apart : (f g : ℕ → ℕ) (k n : ℕ) → ((j : ℕ) → (j == k) ≡ false → g j ≡ f j) → n ≤ k → sum_below g n ≡ sum_below f n
+pub sum_apart : (f g : ℕ → ℕ) (k n : ℕ) → ((j : ℕ) → (j == k) ≡ false → g j ≡ f j) → n ≤ k → sum_below g n ≡ sum_below f n
 sum_apart f g k zero same most = refl
 sum_apart f g k (suc n) same most = let rest = sum_apart f g k n same (omega (arith, most)) in let here = same n (ne_eqb n k (λ e. omega (arith, most, e))) in omega arith
 
-sum_changed : (f g : ℕ → ℕ) (k n : ℕ) → ((j : ℕ) → (j == k) ≡ false → g j ≡ f j) → k < n → sum_below g n + f k ≡ sum_below f n + g k
+pub sum_changed : (f g : ℕ → ℕ) (k n : ℕ) → ((j : ℕ) → (j == k) ≡ false → g j ≡ f j) → k < n → sum_below g n + f k ≡ sum_below f n + g k
 sum_changed f g k zero same less = absurd (omega (arith, less))
 sum_changed f g k (suc n) same less =
     by_cases (n == k) (sum_below g (suc n) + f k ≡ sum_below f (suc n) + g k)

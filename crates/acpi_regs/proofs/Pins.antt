@@ -57,7 +57,7 @@ at_rank (event.Gpe k) = ap event_at five
     five : 5 + k ≡ suc (suc (suc (suc (suc k))))
     five = omega arith
 
-rank_at : (k : ℕ) → event_rank (event_at k) ≡ k
+pub rank_at : (k : ℕ) → event_rank (event_at k) ≡ k
 rank_at zero = refl
 rank_at (suc zero) = refl
 rank_at (suc (suc zero)) = refl

@@ -40,4 +40,6 @@ pub use phase::{LockPhase, Pulse};
 pub use recorded::{PulseLists, Recorded};
 
 #[cfg(test)]
+mod packing_tests;
+#[cfg(test)]
 mod tests;

@@ -159,19 +159,31 @@ fn take_at(load: u64) -> Option<Deed>
 fn push_at(load: u64) -> Option<Deed>
     ensures { result ≡ at.push_at load }
 {
-    if load < 256 { Some(Deed::Push(load as u8)) } else { None }
+    if load < 256 {
+        Some(Deed::Push(load as u8))
+    } else {
+        None
+    }
 }
 
 fn start_at(load: u64) -> Option<Deed>
     ensures { result ≡ at.start_at load }
 {
-    if load < 4294967296 { Some(Deed::Start(load as u32)) } else { None }
+    if load < 4294967296 {
+        Some(Deed::Start(load as u32))
+    } else {
+        None
+    }
 }
 
 fn finish_at(load: u64) -> Option<Deed>
     ensures { result ≡ at.finish_at load }
 {
-    if load < 4294967296 { Some(Deed::Finish(load as u32)) } else { None }
+    if load < 4294967296 {
+        Some(Deed::Finish(load as u32))
+    } else {
+        None
+    }
 }
 
 fn notify_at(load: u64) -> Option<Deed>

@@ -104,10 +104,10 @@ pub mark_within : (s e : List ℕ) (m k : ℕ) → length s ≡ 17 → IsSummary
 mark_within s e m k size is l mark = elim (cases_lt k 17) [
   | inl h ↦ h
   | inr h ↦
-    let past : get_or s k 0 ≡ 0 = get_or_past s k 0 (omega (arith, size, h)) in
-    let some = above_zero (bit_and (get_or s k 0) (get_or e k 0)) (sym (is k l) ∙ mark) in
-    let none : bit_and (get_or s k 0) (get_or e k 0) ≡ 0 = ap (λ x. bit_and x (get_or e k 0)) past in
-    absurd (omega (arith, some, none))
+      let past : get_or s k 0 ≡ 0 = get_or_past s k 0 (omega (arith, size, h)) in
+      let some = above_zero (bit_and (get_or s k 0) (get_or e k 0)) (sym (is k l) ∙ mark) in
+      let none : bit_and (get_or s k 0) (get_or e k 0) ≡ 0 = ap (λ x. bit_and x (get_or e k 0)) past in
+      absurd (omega (arith, some, none))
 ]
 
 pub mark_shares : (s e : List ℕ) (m k : ℕ) → IsSummary s e m → k < 32 → bit_at m k ≡ 1 → 0 < bit_and (get_or s k 0) (get_or e k 0)
@@ -121,19 +121,19 @@ some_first s e m k b is l clear lb set below =
     let word : (16 * k + b) / 16 ≡ k = omega (arith, lb) in
     let bit : (16 * k + b) % 16 ≡ b = omega (arith, lb) in
     let met : meets s e (16 * k + b) ≡ true =
-        meet_bit s e (16 * k + b)
-        ∙ ap (λ j. bit_at (bit_and (get_or s j 0) (get_or e j 0)) ((16 * k + b) % 16) == 1) word
-        ∙ ap (λ i. bit_at (bit_and (get_or s k 0) (get_or e k 0)) i == 1) bit
-        ∙ ap (λ x. x == 1) set in
+    meet_bit s e (16 * k + b)
+    ∙ ap (λ j. bit_at (bit_and (get_or s j 0) (get_or e j 0)) ((16 * k + b) % 16) == 1) word
+    ∙ ap (λ i. bit_at (bit_and (get_or s k 0) (get_or e k 0)) i == 1) bit
+    ∙ ap (λ x. x == 1) set in
     (omega (arith, l, lb), met, λ q less. earlier q less)
   where
     earlier : (q : ℕ) → q < 16 * k + b → meets s e q ≡ false
     earlier q less = elim (cases_lt (q / 16) k) [
       | inl h ↦ unmarked s e m q is (omega (arith, h, l)) (clear (q / 16) h)
       | inr h ↦
-        let same : q / 16 ≡ k = omega (arith, h, less, lb) in
-        let low : q % 16 < b = omega (arith, h, less, lb, same) in
-        meet_bit s e q
-        ∙ ap (λ j. bit_at (bit_and (get_or s j 0) (get_or e j 0)) (q % 16) == 1) same
-        ∙ ap (λ x. x == 1) (below (q % 16) low)
+          let same : q / 16 ≡ k = omega (arith, h, less, lb) in
+          let low : q % 16 < b = omega (arith, h, less, lb, same) in
+          meet_bit s e q
+          ∙ ap (λ j. bit_at (bit_and (get_or s j 0) (get_or e j 0)) (q % 16) == 1) same
+          ∙ ap (λ x. x == 1) (below (q % 16) low)
     ]

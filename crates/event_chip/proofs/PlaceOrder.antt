@@ -55,11 +55,11 @@ pub bit_kept : (test : Slot → Bool) (slots : List Slot) (words words' : List �
     → ((q : ℕ) → q < 272 → has words' q ≡ (if q == p then b else has words q)) → Shows test slots words → Shows test (slice_set slots k s) words'
 bit_kept test slots words words' n k p s b size rank small place is bits old q l = elim (cases_eq q p) [
   | inl e ↦
-    let there : rank_in q ≡ k = ap rank_in (e ∙ place) ∙ rank_there n ∙ sym rank in
-    bits q l ∙ rw (eq-eqb q p e) (is ∙ ap test (sym (get_or-set_at slots k (rank_in q) s no_slot there (omega (arith, size, small)))))
+      let there : rank_in q ≡ k = ap rank_in (e ∙ place) ∙ rank_there n ∙ sym rank in
+      bits q l ∙ rw (eq-eqb q p e) (is ∙ ap test (sym (get_or-set_at slots k (rank_in q) s no_slot there (omega (arith, size, small)))))
   | inr d ↦
-    let elsewhere : rank_in q ≢ k = λ e. d (place_there n q (omega (arith, rank, small)) (e ∙ rank) ∙ sym place) in
-    bits q l ∙ rw (ne_eqb q p d) (old q l ∙ ap test (sym (get_or-set_other slots k (rank_in q) s no_slot elsewhere)))
+      let elsewhere : rank_in q ≢ k = λ e. d (place_there n q (omega (arith, rank, small)) (e ∙ rank) ∙ sym place) in
+      bits q l ∙ rw (ne_eqb q p d) (old q l ∙ ap test (sym (get_or-set_other slots k (rank_in q) s no_slot elsewhere)))
 ]
 
 pub kept : (slots : List Slot) (status enable status' enable' : List ℕ) (m m' : ℕ) (n : Event) (k p : ℕ) (s : Slot) → k ≡ event_rank n → k < 261 → p ≡ place_of n
@@ -95,9 +95,9 @@ pub both_within : (slots : List Slot) (status enable : List ℕ) (m p : ℕ) →
 both_within slots status enable m p kept l met = elim (cases_lt (rank_in p) 261) [
   | inl h ↦ h
   | inr h ↦
-    let size = kept.size in
-    let unset : has status p ≡ false = kept.status_bits p l ∙ ap is_set (get_or_past slots (rank_in p) no_slot (omega (arith, size, h))) in
-    absurd (wrong (has status p) (has enable p) unset met)
+      let size = kept.size in
+      let unset : has status p ≡ false = kept.status_bits p l ∙ ap is_set (get_or_past slots (rank_in p) no_slot (omega (arith, size, h))) in
+      absurd (wrong (has status p) (has enable p) unset met)
 ]
   where
     wrong : (a b : Bool) → a ≡ false → (a && b) ≡ true → ⊥
@@ -107,12 +107,13 @@ both_within slots status enable m p kept l met = elim (cases_lt (rank_in p) 261)
 pub first_some : (slots : List Slot) (status enable : List ℕ) (m p : ℕ) (n : Event) → IsKept slots status enable m → event_rank n ≡ rank_in p → IsFirstPlace status enable (Some p) → IsFirst slots (Some n)
 first_some slots status enable m p n kept rank first =
     let l : event_rank n < 261 = subst (λ k. k < 261) (sym rank) (both_within slots status enable m p kept first.0 first.1) in
-    let here : p ≡ place_of n = place_there n p l (sym rank) in
-    (sym (pends_there slots status enable m n l kept) ∙ ap (meets status enable) (sym here) ∙ first.1,
-    λ k less.
-      let lk : event_rank k < 261 = omega (arith, less, l) in
-      let before : place_of k < p = place_before k p (subst (λ j. j < 261) rank l) (subst (λ j. event_rank k < j) rank less) in
-      sym (pends_there slots status enable m k lk kept) ∙ first.2 (place_of k) before)
+    let here : p ≡ place_of n = place_there n p l (sym rank) in (
+      sym (pends_there slots status enable m n l kept) ∙ ap (meets status enable) (sym here) ∙ first.1,
+      λ k less.
+          let lk : event_rank k < 261 = omega (arith, less, l) in
+          let before : place_of k < p = place_before k p (subst (λ j. j < 261) rank l) (subst (λ j. event_rank k < j) rank less) in
+          sym (pends_there slots status enable m k lk kept) ∙ first.2 (place_of k) before,
+    )
 
 -- ---- words
 
@@ -142,7 +143,7 @@ no_rank : (k i : ℕ) → i < 16 → ((n : Event) → register_of n ≡ k → re
 no_rank zero i l none =
     let same : i ≡ 16 * zero + i = omega arith in
     subst (λ p. 261 ≤ rank_in p) same
-      (no_fixed i l (λ e. none (event.Fixed fixed.Tmr) refl (sym e)) (λ e. none (event.Fixed fixed.Gbl) refl (sym e)) (λ e. none (event.Fixed fixed.Pwr) refl (sym e)) (λ e. none (event.Fixed fixed.Slp) refl (sym e)) (λ e. none (event.Fixed fixed.Rtc) refl (sym e)))
+    (no_fixed i l (λ e. none (event.Fixed fixed.Tmr) refl (sym e)) (λ e. none (event.Fixed fixed.Gbl) refl (sym e)) (λ e. none (event.Fixed fixed.Pwr) refl (sym e)) (λ e. none (event.Fixed fixed.Slp) refl (sym e)) (λ e. none (event.Fixed fixed.Rtc) refl (sym e)))
 no_rank (suc k) i l none = absurd (none (event.Gpe (16 * k + i)) (omega (arith, l)) (omega (arith, l)))
 
 clear_bit : (x i : ℕ) → (bit_at x i == 1) ≡ false → bit_at x i ≡ 0
@@ -157,15 +158,15 @@ clear_bit x i h = elim (cases_eq (bit_at x i) 1) [
 pub word_is : (test : Slot → Bool) (slots : List Slot) (words : List ℕ) (k : ℕ) → k < 17 → length slots ≡ 261 → test no_slot ≡ false → Shows test slots words → IsWord test slots k (get_or words k 0)
 word_is test slots words k l size unknown shows = record {
   events = λ n e.
-    let at = in_register n in
-    ap (λ j. bit_at (get_or words j 0) (register_bit n) == 1) (sym (at.0 ∙ e))
-    ∙ ap (λ i. bit_at (get_or words (place_of n / 16) 0) i == 1) (sym at.1)
-    ∙ test_of test slots words n (in_range n (subst (λ j. j < 17) (sym e) l)) shows;
+      let at = in_register n in
+      ap (λ j. bit_at (get_or words j 0) (register_bit n) == 1) (sym (at.0 ∙ e))
+      ∙ ap (λ i. bit_at (get_or words (place_of n / 16) 0) i == 1) (sym at.1)
+      ∙ test_of test slots words n (in_range n (subst (λ j. j < 17) (sym e) l)) shows;
   others = λ i h none.
-    let past : slot_in slots (16 * k + i) ≡ no_slot = let far = no_rank k i h none in get_or_past slots (rank_in (16 * k + i)) no_slot (omega (arith, size, far)) in
-    let word : (16 * k + i) / 16 ≡ k = omega (arith, h) in
-    let bit : (16 * k + i) % 16 ≡ i = omega (arith, h) in
-    clear_bit (get_or words k 0) i
+      let past : slot_in slots (16 * k + i) ≡ no_slot = let far = no_rank k i h none in get_or_past slots (rank_in (16 * k + i)) no_slot (omega (arith, size, far)) in
+      let word : (16 * k + i) / 16 ≡ k = omega (arith, h) in
+      let bit : (16 * k + i) % 16 ≡ i = omega (arith, h) in
+      clear_bit (get_or words k 0) i
       (ap (λ j. bit_at (get_or words j 0) i == 1) (sym word)
       ∙ ap (λ j. bit_at (get_or words ((16 * k + i) / 16) 0) j == 1) (sym bit)
       ∙ shows (16 * k + i) (omega (arith, l, h))

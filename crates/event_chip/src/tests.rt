@@ -1,6 +1,6 @@
 //! What a machine's events do, touch by touch.
 use crate::Touch::{Assert, Claim, Down, Drop, Finish, Raise, Up};
-use crate::{EventChip, EventKind, Touch};
+use crate::{EventChip, EventKind, EventWord, Touch};
 use acpi_regs::{Event, Fixed, Listed, Memory};
 use std::alloc::Global;
 
@@ -208,9 +208,101 @@ fn events_are_pending_in_their_order(rt: HostRuntime) {
     assert_eq!(rt; chip.first_pending(), None);
 }
 
+/// A chip that lists every event once, with one reference.
+fn full_chip(alloc: Global) -> Result<EventChip, Memory> {
+    let mut listed = [Listed {
+        event: GBL,
+        level: false,
+        refs: 1,
+    }; 261];
+    for (rank, item) in listed.iter_mut().enumerate() {
+        if rank < 261 {
+            item.event = Event::at_rank(rank as u16);
+        }
+    }
+    EventChip::new(alloc, &listed, None)
+}
+
+/// Whether the event is the first one that is pending, and a claim and a finish of it could be made.
+fn serves(chip: &mut EventChip, event: Event) -> bool {
+    chip.first_pending() == Some(event)
+        && made(chip, Claim, event)
+        && (event == GBL || made(chip, Finish, event))
+}
+
 #[test]
-fn gpes_of_each_word_are_found(rt: HostRuntime) {
-    for gpe in [0, 58, 59, 122, 123, 186, 187, 250, 251, 255] {
+fn each_event_is_found_alone_and_before_each_later_one(rt: HostRuntime) {
+    let Ok(mut chip) = full_chip(rt.alloc()) else {
+        assert!(rt; false);
+        return;
+    };
+    for rank in 0..Event::COUNT {
+        let event = Event::at_rank(rank);
+        assert!(rt; made(&mut chip, Raise, event) && serves(&mut chip, event));
+        for later in rank + 1..Event::COUNT {
+            let other = Event::at_rank(later);
+            assert!(rt; made(&mut chip, Raise, other) && made(&mut chip, Raise, event));
+            assert!(rt; serves(&mut chip, event) && serves(&mut chip, other));
+        }
+        assert_eq!(rt; chip.first_pending(), None);
+    }
+}
+
+#[test]
+fn words_show_status_and_enable(rt: HostRuntime) {
+    let Ok(mut chip) = chip(rt.alloc()) else {
+        assert!(rt; false);
+        return;
+    };
+    // The fixed events by their PM1 bits: the Global Lock's, the power button and the clock are enabled.
+    assert_eq!(rt;
+        chip.words(0),
+        EventWord {
+            status: 0,
+            enable: 0x520
+        }
+    );
+    assert_eq!(rt;
+        chip.words(1),
+        EventWord {
+            status: 0,
+            enable: 0x4C
+        }
+    );
+    assert!(rt; made(&mut chip, Raise, SLEEP));
+    assert_eq!(rt;
+        chip.words(0),
+        EventWord {
+            status: 0x200,
+            enable: 0x520
+        }
+    );
+    // GPE 2 is level: after sixteen runs under its line it is parked.
+    assert!(rt; made(&mut chip, Assert, LEVEL));
+    for _ in 0..16 {
+        assert!(rt; made(&mut chip, Claim, LEVEL) && made(&mut chip, Finish, LEVEL));
+    }
+    assert_eq!(rt;
+        chip.words(1),
+        EventWord {
+            status: 4,
+            enable: 0x48
+        }
+    );
+    for k in 2..17 {
+        assert_eq!(rt;
+            chip.words(k),
+            EventWord {
+                status: 0,
+                enable: 0
+            }
+        );
+    }
+}
+
+#[test]
+fn a_parked_event_alone_in_its_word_has_status_alone(rt: HostRuntime) {
+    for gpe in [2, 255] {
         let event = Event::Gpe(gpe);
         let listed = [Listed {
             event,
@@ -222,7 +314,11 @@ fn gpes_of_each_word_are_found(rt: HostRuntime) {
             return;
         };
         assert!(rt; made(&mut chip, Assert, event));
-        assert_eq!(rt; chip.first_pending(), Some(event));
+        for _ in 0..16 {
+            assert!(rt; made(&mut chip, Claim, event) && made(&mut chip, Finish, event));
+        }
+        let status = 1u16 << (gpe % 16);
+        assert_eq!(rt; chip.words(1 + gpe / 16), EventWord { status, enable: 0 });
     }
 }
 

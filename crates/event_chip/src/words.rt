@@ -182,7 +182,11 @@ fn marked(summary: u32, bit: usize, is_in: bool) -> u32
     ensures { (i : ℕ) → i < 32 → bit_at result i ≡ (if i == bit then one is_in else bit_at summary i) }
 {
     let mask = 1 << bit;
-    if is_in { summary | mask } else { summary & !mask }
+    if is_in {
+        summary | mask
+    } else {
+        summary & !mask
+    }
 }
 
 /// The place of the lowest bit that is set.

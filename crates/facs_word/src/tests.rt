@@ -42,6 +42,31 @@ fn a_word_is_acquired_and_released(rt: HostRuntime) {
 }
 
 #[test]
+fn reserved_bits_of_the_lock_stay(rt: HostRuntime) {
+    let reserved = [
+        0,
+        4,
+        8,
+        0x100,
+        0x1234_5678,
+        0x7FFF_FFFC,
+        0x8000_0000,
+        0xFFFF_FFFC,
+    ];
+    for high in reserved {
+        for low in [0, 1, 2, 3] {
+            let word: u32 = high | low;
+            // ACPI 6.5, section 5.2.10.1.
+            let acquired = (word & !1) | 2 | ((word >> 1) & 1);
+            assert_eq!(rt; acquire_of(word), acquired, "acquire {word}");
+            assert_eq!(rt; release_of(word), word & !3, "release {word}");
+            assert_eq!(rt; owned(word), word & 2 == 2, "owned {word}");
+            assert_eq!(rt; pending(word), word & 1 == 1, "pending {word}");
+        }
+    }
+}
+
+#[test]
 fn bytes_that_are_no_table_are_refused(rt: HostRuntime) {
     // The place of a byte, what it is made, and the fault.
     let refused = [

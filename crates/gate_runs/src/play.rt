@@ -80,15 +80,23 @@ fn play_times<R: Threads + Sync>(
 ) -> Result<(), AllocError> {
     for _ in 0..times {
         let outcome = call.make(rt, alloc)?;
-        let mut answer = case
-            .telling
-            .answer(alloc, &call, case.input.made(), &outcome)?;
+        let mut said = answer(alloc, case, &call, &outcome)?;
         if case.telling.is_checked() {
-            answer.push_str(verdict(rt, alloc, &outcome)?.as_str())?;
+            said.push_str(verdict(rt, alloc, &outcome)?.as_str())?;
         }
-        groups.add(Kind::Plain, answer)?;
+        groups.add(Kind::Plain, said)?;
     }
     Ok(())
+}
+
+/// What is written of the answer to a call of a case.
+fn answer(
+    alloc: Global,
+    case: &Case,
+    call: &Call<'_>,
+    outcome: &Outcome,
+) -> Result<String, AllocError> {
+    case.telling.answer(alloc, call, case.input.made(), outcome)
 }
 
 /// Each read fails in turn, up to a number that no read has.
@@ -105,13 +113,11 @@ fn play_each_read<R: Threads + Sync>(
             ..call
         };
         let outcome = call.make(rt, alloc)?;
-        let answer = case
-            .telling
-            .answer(alloc, &call, case.input.made(), &outcome)?;
+        let said = answer(alloc, case, &call, &outcome)?;
         if outcome.status != Status::ReadFault {
-            return groups.add(Kind::NoReadFails, answer);
+            return groups.add(Kind::NoReadFails, said);
         }
-        groups.add(Kind::ReadFails, answer)?;
+        groups.add(Kind::ReadFails, said)?;
     }
     Ok(())
 }
@@ -132,21 +138,18 @@ fn play_each_write<R: Threads + Sync>(
         };
         let outcome = call.make(rt, alloc)?;
         if outcome.status != Status::WriteFault {
-            let answer = case
-                .telling
-                .answer(alloc, &call, case.input.made(), &outcome)?;
-            return groups.add(Kind::NoWriteFails, answer);
+            let said = answer(alloc, case, &call, &outcome)?;
+            return groups.add(Kind::NoWriteFails, said);
         }
-        let answer = if has_front(&outcome, &whole, number, call.most) {
+        let said = if has_front(&outcome, &whole, number, call.most) {
             let code = outcome.status.code();
             format!(in alloc;
                 "WriteFault, code {code}, no later write, held: what the writes before took\n"
             )?
         } else {
-            case.telling
-                .answer(alloc, &call, case.input.made(), &outcome)?
+            answer(alloc, case, &call, &outcome)?
         };
-        groups.add(Kind::WriteFails, answer)?;
+        groups.add(Kind::WriteFails, said)?;
     }
     Ok(())
 }
@@ -174,10 +177,8 @@ fn play_each_front<R: Threads + Sync>(
             ..call
         };
         let outcome = call.make(rt, alloc)?;
-        let answer = case
-            .telling
-            .answer(alloc, &call, case.input.made(), &outcome)?;
-        groups.add(Kind::Front, answer)?;
+        let said = answer(alloc, case, &call, &outcome)?;
+        groups.add(Kind::Front, said)?;
     }
     Ok(())
 }

@@ -102,7 +102,7 @@ impl Telling {
     /// The lines that are picked, and behind them those that are sorted.
     fn lines(&self, alloc: Global, entries: &str) -> Result<String, AllocError> {
         if self.picked.is_empty() && self.sorted.is_empty() {
-            return joined(&self.lines_with(alloc, entries, None)?, alloc);
+            return self.all_lines(alloc, entries);
         }
         let picked = self.lines_with(alloc, entries, Some(self.picked.as_str()))?;
         let mut sorted = self.lines_with(alloc, entries, Some(self.sorted.as_str()))?;
@@ -110,6 +110,15 @@ impl Telling {
         let mut text = joined(&picked, alloc)?;
         text.push_str(joined(&sorted, alloc)?.as_str())?;
         Ok(text)
+    }
+
+    /// All lines. With their actors the text is as it was written, to the last newline.
+    fn all_lines(&self, alloc: Global, entries: &str) -> Result<String, AllocError> {
+        if self.without_actors {
+            joined(&self.lines_with(alloc, entries, None)?, alloc)
+        } else {
+            String::from_str(alloc, entries)
+        }
     }
 
     /// The lines in which one of these words stands, or all.

@@ -9,4 +9,4 @@ returns c =
     let w = c.self.inside.words in
     let place : c.from.result ≡ place_of c.args.event = search rules in
     subst (λ s. c.meets.result ≡ pends s c.args.event) c.self.view_is
-      (pends_at c.self.inside.slots.items w.status.words w.enable.words w.summary c.args.event c.from.result c.meets.result c.self.invariant place (search rules) c.meets.ensures)
+    (pends_at c.self.inside.slots.items w.status.words w.enable.words w.summary c.args.event c.from.result c.meets.result c.self.invariant place (search rules) c.meets.ensures)

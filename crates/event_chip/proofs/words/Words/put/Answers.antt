@@ -9,4 +9,4 @@ returns-clause-summary c = λ old.
     let e = c.set-2.new.self.words in
     let kept = summary_kept c.args.self.now.status.words c.args.self.now.enable.words s e c.args.self.now.summary c.sum_up.new.self.summary (c.args.place / 16) c.set.ensures.others c.set-2.ensures.others c.sum_up.ensures.marks old in
     subst (λ x. IsSummary x c.sum_up.new.self.enable.words c.sum_up.new.self.summary) (sym c.sum_up.ensures.status)
-      (subst (λ x. IsSummary s x c.sum_up.new.self.summary) (sym c.sum_up.ensures.enable) kept)
+    (subst (λ x. IsSummary s x c.sum_up.new.self.summary) (sym c.sum_up.ensures.enable) kept)
