@@ -15,6 +15,14 @@ _acpi_events() {
         run | replay) mapfile -t COMPREPLY < <(compgen -o plusdirs -f -X '!*.json' -- "$word") ;;
         check) mapfile -t COMPREPLY < <(compgen -o plusdirs -f -X '!*.log' -- "$word") ;;
         esac
+        # Hidden names are given only where one is begun.
+        if [ -z "${word##*/}" ]; then
+            local name shown=()
+            for name in "${COMPREPLY[@]}"; do
+                [[ ${name##*/} == .* ]] || shown+=("$name")
+            done
+            COMPREPLY=("${shown[@]}")
+        fi
     fi
 }
 
