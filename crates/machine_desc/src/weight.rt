@@ -77,8 +77,8 @@ fn event_cost(machine: &Machine, event: &ListedEvent) -> Cost
 fn events_cost(machine: &Machine) -> Cost
     ensures entries { result.entries ≡ weight.events_size machine.now }
     ensures moves { result.moves ≡ weight.events_moves machine.now }
-    ensures few_entries { result.entries ≤ 132 * 521840295936 }
-    ensures few_moves { result.moves ≤ 132 * 521840295936 }
+    ensures few_entries { result.entries ≤ 260 * 521840295936 }
+    ensures few_moves { result.moves ≤ 260 * 521840295936 }
 {
     machine.law_rules();
     let mut entries = 0;
