@@ -8,7 +8,7 @@ use Rattle.field_units.specs.declared.rules.LockRule.TheVariants as lock
 use Rattle.field_units.specs.declared.rules.RegionKind.{RegionKind}
 use Rattle.field_units.specs.declared.rules.RegionKind.TheVariants as kind
 use Rattle.field_units.specs.Bits.{byte_count, first_byte, joined, replaced}
-use Rattle.field_units.specs.Field.{Field, is_controller, is_lock, needs_lock}
+use Rattle.field_units.specs.Field.{Field, is_lock, needs_lock}
 use Rattle.handler_script.specs.declared.act.Act.{Act}
 use Rattle.handler_script.specs.declared.act.Act.TheVariants as act
 use Rattle.handler_script.specs.declared.op.Op.{Op}
@@ -88,12 +88,12 @@ writes c n field needs k (suc left) value next beside size rest =
 
 closes : (c : Cell) (n : ℕ) (field : Field) (held : Bool) (p : Plan) → Adds c None n p → Adds c None n (closed field held p)
 closes c n field held p rest =
-    wanted c n (bursts field) true (act.Ask request.Bd) (unlocked field held p) refl (wanted c n (takes_lock field held) false act.Unlock p refl rest)
+    wanted c n (bursts field) (access_needs field held) (act.Ask request.Bd) (unlocked field held p) refl (wanted c n (takes_lock field held) false act.Unlock p refl rest)
 
 framed : (c : Cell) (n : ℕ) (field : Field) (held : Bool) (p : Plan) → Adds c None n p
-    → Adds c None n (where_wanted (takes_lock field held) false act.Lock (where_wanted (bursts field) true (act.Ask request.Be) p))
+    → Adds c None n (where_wanted (takes_lock field held) false act.Lock (where_wanted (bursts field) (access_needs field held) (act.Ask request.Be) p))
 framed c n field held p rest =
-    wanted c n (takes_lock field held) false act.Lock _ refl (wanted c n (bursts field) true (act.Ask request.Be) p refl rest)
+    wanted c n (takes_lock field held) false act.Lock _ refl (wanted c n (bursts field) (access_needs field held) (act.Ask request.Be) p refl rest)
 
 -- ---- ops on a field that does not touch the cell
 
@@ -130,7 +130,7 @@ cell_is : (c : Cell) (field : Field) → IsOn c field → same_cell (cell_of fie
 cell_is c field h = and_from _ _ (eq-eqb field.region c.region h.region) (eq-eqb (first_byte field + 0) c.offset (at_offset field c.offset h.byte))
 
 needs : (c : Cell) (field : Field) (held : Bool) → IsOn c field → access_needs field held ≡ true
-needs c field held h = or_left (needs_lock field) held (or_left (is_lock field.lock) (is_controller field.kind) (ap is_lock h.lock))
+needs c field held h = or_left (needs_lock field) held (ap is_lock h.lock)
 
 -- the read and the write
 write_at : (c : Cell) (n : ℕ) (of_lock : Bool) (field : Field) (u w : ℕ) (of_kind : RegionKind) (next : ℕ → Plan) → of_kind ≡ kind.Memory → of_lock ≡ true → same_cell (cell_of field 0) c ≡ true → u ≡ w
@@ -217,5 +217,6 @@ from_op fields c f (o ∷ ops) held last around only no_skip =
 pub script_adds : (fields : List Field) (c : Cell) (f : ℕ) (ops : List Op) → Around fields c f → list_all (only_adds f) ops ≡ true → list_all is_no_skip ops ≡ true → Adds c None (adds f ops) (plan fields ops)
 script_adds fields c f ops around only no_skip = subst (λ n. Adds c None n (plan fields ops)) (sym (sums-same (added f) ops)) (from_op fields c f ops false 0 around only no_skip)
 
-pub query_adds : (c : Cell) → Adds c None 0 query_plan
-query_adds c = λ _. λ _. λ _. refl
+pub query_adds : (c : Cell) (glk : Bool) → Adds c None 0 (query_plan glk)
+query_adds c false = λ _. refl
+query_adds c true = λ _. λ _. λ _. refl

@@ -11,11 +11,14 @@ use Rattle.field_units.specs.declared.rules.RegionKind.{RegionKind}
 use Rattle.field_units.specs.declared.rules.RegionKind.TheVariants as kind
 use Rattle.field_units.specs.Bits.{byte_count, in_span}
 use Rattle.field_units.specs.Bits as bits
+use Rattle.field_units.specs.declared.rules.LockRule.{LockRule}
+use Rattle.field_units.specs.declared.rules.LockRule.TheVariants as lock
 use Rattle.field_units.specs.Field.{Field, RegionData, is_controller}
 use Rattle.handler_script.specs.Parts.{cell_of}
 use Rattle.handler_script.specs.Plan.{End}
 use Rattle.machine_desc.specs.Kept.{IsField, IsMachine}
-use Rattle.machine_desc.specs.Machine.{MachineData}
+use Rattle.machine_desc.specs.Machine.{MachineData, act_fields, acting, glk, lock_where}
+use Rattle.machine_desc.proofs.Acting.{acting_at, acts_at}
 use Rattle.machine_desc.proofs.EachItem.{each_all}
 use Rattle.machine_history.specs.declared.parts.Job.{Job}
 use Rattle.machine_history.specs.declared.parts.Job.TheVariants as job
@@ -164,20 +167,27 @@ beside m c f g other h named apart k below = elim (cases_Bool (same_cell (cell_o
   | inr none ↦ none
 ]
 
-around : (m : MachineData) (c : Cell) (f : ℕ) → IsMachine m → IsAddedTo m c f → Around m.fields c f
+-- acts go by the rule Lock where the description gives it
+stays_lock : (b : Bool) (rule : LockRule) → rule ≡ lock.Lock → lock_where b rule ≡ lock.Lock
+stays_lock true rule is = refl
+stays_lock false rule is = is
+
+around : (m : MachineData) (c : Cell) (f : ℕ) → IsMachine m → IsAddedTo m c f → Around (act_fields m) c f
 around m c f is h =
     let field = each_all (IsField m) m.fields is.fields f h.field h.named in
     let memory = (and_parts (is_memory (slice_get m.regions c.region)) (nat_lt c.offset (cells_in (slice_get m.regions c.region))) h.memory).0 in
     record {
-      field = h.field;
-      named = h.named;
+      field = acting (glk m) h.field;
+      named = acting_at (glk m) m.fields f ∙ ap (option_map (acting (glk m))) h.named;
       on = record {
         memory = field.kind ∙ region_memory (slice_get m.regions c.region) field.region (ap (slice_get m.regions) (sym h.region) ∙ field.named) memory;
         region = h.region;
         byte = record { first = h.first; width = h.width };
-        lock = h.lock;
+        lock = stays_lock (is_controller h.field.kind && glk m) h.field.lock h.lock;
       };
-      others = λ g other named apart. beside m c f g other h named apart;
+      others = λ g other named apart. (
+          let a = acts_at (glk m) m.fields g other named in
+          subst (λ (x : Field). (k : ℕ) → k < byte_count x → same_cell (cell_of x k) c ≡ false) a.same (beside m c f g a.given h a.named apart));
     }
 
 -- ---- what each actor and each job adds
@@ -199,14 +209,14 @@ sums m c f is plain h = record {
 }
   where
     firsts : (a : Actor) → Adds c None (first_adds m f a) (first_plan m a)
-    firsts (actor.Firmware k) = script_adds m.fields c f (script_of m k) (around m c f is h) (h.adds.firmware k) (plain.firmware k)
+    firsts (actor.Firmware k) = script_adds (act_fields m) c f (script_of m k) (around m c f is h) (h.adds.firmware k) (plain.firmware k)
     firsts _ = refl
 
     of_job : (j : Option Job) → Adds c None (job_worth m f j) (job_plan m j)
     of_job None = refl
-    of_job (Some (job.Event n)) = script_adds m.fields c f (event_script m n) (around m c f is h) (h.adds.events n) (plain.events n)
-    of_job (Some job.Query) = query_adds c
-    of_job (Some (job.Code q)) = script_adds m.fields c f (code_script m q) (around m c f is h) (h.adds.codes q) (plain.codes q)
+    of_job (Some (job.Event n)) = script_adds (act_fields m) c f (event_script m n) (around m c f is h) (h.adds.events n) (plain.events n)
+    of_job (Some job.Query) = query_adds c (glk m)
+    of_job (Some (job.Code q)) = script_adds (act_fields m) c f (code_script m q) (around m c f is h) (h.adds.codes q) (plain.codes q)
 
 pub sums_adds : (m : MachineData) (history : List Entry) → IsMachine m → EveryOp is_no_skip m → Complete m history → SumsAdds m history
 sums_adds m history is plain complete c f h =

@@ -27,7 +27,7 @@ use Rattle.handler_script.specs.declared.act.Act.TheVariants as act
 use Rattle.handler_script.specs.Plan.{Plan, next_act, plan_after, query_plan}
 use Rattle.machine_desc.specs.declared.machine.ControllerDesc.{ControllerDesc}
 use Rattle.machine_desc.specs.Kept.{IsMachine, event_of_controller, own_event}
-use Rattle.machine_desc.specs.Machine.{MachineData}
+use Rattle.machine_desc.specs.Machine.{MachineData, glk}
 use Rattle.machine_history.specs.declared.parts.Job.{Job}
 use Rattle.machine_history.specs.declared.parts.Job.TheVariants as job
 use Rattle.machine_history.specs.declared.parts.Touched.{Touched}
@@ -46,7 +46,7 @@ use Rattle.machine_history.proofs.Machines.{own_is}
 use Rattle.machine_history.proofs.Queries.{IsOwn, next_status, slot_kind, status_next, unasked}
 use Rattle.machine_history.proofs.Stages.{Follows, follows_own, is_trying_at, stage}
 use Rattle.machine_history.proofs.Wires.{host_is}
-use Rattle.core_laws.specs.Sound.{CodesSound, IsAsked, IsBeforeOut, IsEarly, OwnHasStatus, asking}
+use Rattle.core_laws.specs.Sound.{CodesSound, IsAsked, IsAsking, IsBeforeOut, IsEarly, OwnHasStatus}
 use Rattle.core_laws.proofs.Suits.{next_suits}
 
 both : (x : Bool) → x ≡ true → x ≡ false → ⊥
@@ -54,11 +54,12 @@ both x p q = cc
 
 -- ---- what is next at a query
 
-at_lock : (p : Plan) → p ≡ query_plan → next_act p ≡ Some act.Lock
+at_lock : (p : Plan) → p ≡ query_plan true → next_act p ≡ Some act.Lock
 at_lock p is = ap next_act is
 
-at_ask : (p : Plan) → p ≡ asking → next_act p ≡ Some (act.Ask request.Qr)
-at_ask p is = ap next_act is
+at_ask : (p : Plan) → IsAsking p → next_act p ≡ Some (act.Ask request.Qr)
+at_ask p (inl is) = ap next_act is
+at_ask p (inr is) = ap next_act is
 
 lock_or_ask : (x : Option Act) (r : Request) → x ≡ Some act.Lock → x ≡ Some (act.Ask r) → ⊥
 lock_or_ask x r lock ask = let same = sym lock ∙ ask in cc
@@ -138,6 +139,16 @@ none_own : (w : Actor) (x : Option Act) (oo : Option Open) → AsksAt w x oo →
 none_own w x None asks lock = tt
 none_own w x (Some o) asks lock = λ own. absurd (lock_or_ask x o.asks lock (asks own))
 
+-- nor is anything where there is no next act
+none_left : (w : Actor) (x : Option Act) (oo : Option Open) → AsksAt w x oo → x ≡ None → IsEarly w oo
+none_left w x None asks none = tt
+none_left w x (Some o) asks none = λ own. absurd (let same = sym none ∙ asks own in cc)
+
+-- a query job that starts has its Out before it
+starts_before : (w : Actor) (glk : Bool) (oo : Option Open) → IsEarly w oo → IsBeforeOut w (query_plan glk) oo
+starts_before w true oo early = inl refl
+starts_before w false oo early = inr (inr refl, early)
+
 take_late : (m : MachineData) (past : List Entry) (oo : Option Open) (o : Open) → oo ≡ Some o → o.asks ≡ request.Qr → o.made ≤ 1 → is_some (taking_in m past oo) ≡ true → ⊥
 take_late m past oo o is asks few some = at (o.made == length (wire o.asks 0)) refl (subst (λ x. is_some (taking_in m past x) ≡ true) is some)
   where
@@ -150,7 +161,7 @@ RunsBefore m past w j b d = (running_after d (running past w) ≡ Some j) × IsB
 
 own_before : (m : MachineData) (past : List Entry) (w : Actor) (d : Deed) (j : ℕ) → LegalPast m past → Allowed m past (entry w d) → Follows d (stage w past) → running past w ≡ Some j → NoOut past d → IsBeforeOut w (plan_left m past w) (open_of past) → RunsBefore m past w j w d
 own_before m past w deed.Own j legal ok f runs none (inl at) =
-    (runs, inr (ap (plan_after 0) at, none_own w (next_of m past w) (open_of past) (kept m past w legal).1 (at_lock (plan_left m past w) at)))
+    (runs, inr (inl (ap (plan_after 0) at), none_own w (next_of m past w) (open_of past) (kept m past w legal).1 (at_lock (plan_left m past w) at)))
 own_before m past w deed.Own j legal ok f runs none (inr at) =
     absurd (lock_or_ask (next_of m past w) request.Qr ((kept m past w legal).0 (ap is_trying_at f)) (at_ask (plan_left m past w) at.0))
 own_before m past w deed.Disown j legal ok f runs none before = absurd (no_plain m past w deed.Disown refl (hold m past w deed.Disown ok).1.1.1.0 before)
@@ -197,13 +208,19 @@ last_job [] y = refl
 last_job (x ∷ js) y = last_job js y
 
 -- a query that waits for its start
-keep_unstarted : (m : MachineData) (past : List Entry) (b : Actor) (d : Deed) (j : ℕ) → Allowed m past (entry b d) → slice_get (jobs m past) j ≡ Some job.Query → starts past ≤ j → IsAsked m (entry b d ∷ past)
-keep_unstarted m past b (deed.Start i) j ok query waits = at (i == j) refl (start_parts m past b i (hold m past b (deed.Start i) ok).1.1.0)
+keep_unstarted : (m : MachineData) (past : List Entry) (b : Actor) (d : Deed) (j : ℕ) → LegalPast m past → Allowed m past (entry b d) → slice_get (jobs m past) j ≡ Some job.Query → starts past ≤ j → IsAsked m (entry b d ∷ past)
+keep_unstarted m past b (deed.Start i) j legal ok query waits = at (i == j) refl (start_parts m past b i (hold m past b (deed.Start i) ok).1.1.0)
   where
+    early : IsEarly b (open_of past)
+    early =
+        let k = kept m past b legal in
+        let h = hold m past b (deed.Start i) ok in
+        none_left b (next_of m past b) (open_of past) k.1 (ap next_act (k.2 h.0 (start_free m past b i h.1.1.0)))
+
     at : (x : Bool) → (i == j) ≡ x → (i ≡ starts past) × (starts past < length (jobs m past)) → IsAsked m (entry b (deed.Start i) ∷ past)
-    at true same p = (j, query, inr (b, rw (same_self b) (ap Some (eqb-true i j same)), inl (rw (same_self b) (ap (λ k. job_plan m (slice_get (jobs m past) k)) (eqb-true i j same) ∙ ap (job_plan m) query))))
+    at true same p = (j, query, inr (b, rw (same_self b) (ap Some (eqb-true i j same)), rw (same_self b) (subst (λ p. IsBeforeOut b p (open_of past)) (sym (ap (λ k. job_plan m (slice_get (jobs m past) k)) (eqb-true i j same) ∙ ap (job_plan m) query)) (starts_before b (glk m) (open_of past) early))))
     at false apart p = (j, query, inl (let ne = eqb-false i j apart in let is = p.0 in grind (arith, ne, is, waits)))
-keep_unstarted m past b d j ok query waits = (j, keep_job (jobs m past) (made m past (entry b d)) j job.Query query, inl waits)
+keep_unstarted m past b d j legal ok query waits = (j, keep_job (jobs m past) (made m past (entry b d)) j job.Query query, inl waits)
 
 -- a query that runs
 keep_running : (m : MachineData) (past : List Entry) (b w : Actor) (d : Deed) (j : ℕ) → LegalPast m past → Allowed m past (entry b d) → NoOut past d → slice_get (jobs m past) j ≡ Some job.Query → running past w ≡ Some j → IsBeforeOut w (plan_left m past w) (open_of past) → IsAsked m (entry b d ∷ past)
@@ -220,7 +237,7 @@ keep_running m past b w d j legal ok none query runs before = at (same_actor w b
     at false apart = (j, kept_query, inr (w, rw apart runs, rw apart (other_before m past w b d legal ok apart none before)))
 
 keep_asked : (m : MachineData) (past : List Entry) (b : Actor) (d : Deed) → LegalPast m past → Allowed m past (entry b d) → NoOut past d → IsAsked m past → IsAsked m (entry b d ∷ past)
-keep_asked m past b d legal ok none (j, query, inl waits) = keep_unstarted m past b d j ok query waits
+keep_asked m past b d legal ok none (j, query, inl waits) = keep_unstarted m past b d j legal ok query waits
 keep_asked m past b d legal ok none (j, query, inr r) = keep_running m past b r.0 d j legal ok none query r.1 r.2
 
 -- ---- the status of the controller's event

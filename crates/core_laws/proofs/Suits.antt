@@ -17,12 +17,12 @@ use Rattle.handler_script.specs.declared.act.Act.{Act}
 use Rattle.handler_script.specs.declared.act.Act.TheVariants as act
 use Rattle.handler_script.specs.declared.op.Op.{Op}
 use Rattle.handler_script.specs.Each.{Each}
-use Rattle.handler_script.specs.Plan.{Plan, Do, End, next_act, plan}
+use Rattle.handler_script.specs.Plan.{Plan, Do, End, next_act, plan, query_plan}
 use Rattle.machine_desc.specs.declared.machine.ControllerDesc.{ControllerDesc}
 use Rattle.machine_desc.specs.declared.machine.ListedEvent.{ListedEvent}
 use Rattle.machine_desc.specs.declared.machine.Query.{Query}
 use Rattle.machine_desc.specs.Kept.{IsHandler, IsListed, IsMachine, IsQuery, event_of_controller, listed_in, own_event, queries_in}
-use Rattle.machine_desc.specs.Machine.{MachineData}
+use Rattle.machine_desc.specs.Machine.{MachineData, act_fields, glk}
 use Rattle.machine_desc.specs.Rules.{is_listed}
 use Rattle.machine_desc.specs.Scripts.{suits_side}
 use Rattle.machine_desc.proofs.EachItem.{each_all}
@@ -82,8 +82,8 @@ each_more : (P Q : Bool → Act → Bool) (p : Plan) → ((needs : Bool) (x : Ac
 each_more P Q End more each = tt
 each_more P Q (Do needs x next) more each = (more needs x each.0, λ byte. each_more P Q (next byte) more (each.1 byte))
 
-script_suits : (m : MachineData) (a : Actor) (s : Side) (ops : List Op) → IsMachine m → runs_side m a s → IsHandler m s ops → Each (suits m a) (plan m.fields ops)
-script_suits m a s ops ok runs handler = each_more (suits_side m s) (suits m a) (plan m.fields ops) (suits_actor m a s runs) (runs_well m ok s ops handler).suited
+script_suits : (m : MachineData) (a : Actor) (s : Side) (ops : List Op) → IsMachine m → runs_side m a s → IsHandler m s ops → Each (suits m a) (plan (act_fields m) ops)
+script_suits m a s ops ok runs handler = each_more (suits_side m s) (suits m a) (plan (act_fields m) ops) (suits_actor m a s runs) (runs_well m ok s ops handler).suited
 
 -- ---- the plans of jobs and of firmware
 
@@ -92,32 +92,36 @@ abbrev pub JobIs : MachineData → Option Job → Type 0
 JobIs m (Some job.Query) = is_some m.controller ≡ true
 JobIs m _ = Unit {0}
 
-event_suits : (m : MachineData) (a : Actor) → IsMachine m → is_worker m a ≡ true → (n : Event) (ls : List ListedEvent) → ((k : ℕ) (l : ListedEvent) → slice_get ls k ≡ Some l → IsListed m l) → Each (suits m a) (plan m.fields (script_in ls n))
+event_suits : (m : MachineData) (a : Actor) → IsMachine m → is_worker m a ≡ true → (n : Event) (ls : List ListedEvent) → ((k : ℕ) (l : ListedEvent) → slice_get ls k ≡ Some l → IsListed m l) → Each (suits m a) (plan (act_fields m) (script_in ls n))
 event_suits m a ok works n [] all = tt
 event_suits m a ok works n (l ∷ ls) all = at (same_event l.listed.event n) (event_suits m a ok works n ls (λ k x at. all (suc k) x at))
   where
-    at : (b : Bool) → Each (suits m a) (plan m.fields (script_in ls n)) → Each (suits m a) (plan m.fields (if b then l.script else script_in ls n))
+    at : (b : Bool) → Each (suits m a) (plan (act_fields m) (script_in ls n)) → Each (suits m a) (plan (act_fields m) (if b then l.script else script_in ls n))
     at true rest = script_suits m a side.Os l.script ok works (all zero l refl).script
     at false rest = rest
 
-code_suits : (m : MachineData) (a : Actor) → IsMachine m → is_worker m a ≡ true → (q : ℕ) (queries : List Query) → ((k : ℕ) (x : Query) → slice_get queries k ≡ Some x → IsQuery m x) → Each (suits m a) (plan m.fields (query_in queries q))
+code_suits : (m : MachineData) (a : Actor) → IsMachine m → is_worker m a ≡ true → (q : ℕ) (queries : List Query) → ((k : ℕ) (x : Query) → slice_get queries k ≡ Some x → IsQuery m x) → Each (suits m a) (plan (act_fields m) (query_in queries q))
 code_suits m a ok works q [] all = tt
 code_suits m a ok works q (h ∷ queries) all = at (h.code == q) (code_suits m a ok works q queries (λ k x at. all (suc k) x at))
   where
-    at : (b : Bool) → Each (suits m a) (plan m.fields (query_in queries q)) → Each (suits m a) (plan m.fields (if b then h.script else query_in queries q))
+    at : (b : Bool) → Each (suits m a) (plan (act_fields m) (query_in queries q)) → Each (suits m a) (plan (act_fields m) (if b then h.script else query_in queries q))
     at true rest = script_suits m a side.Os h.script ok works (all zero h refl).script
     at false rest = rest
+
+query_suits : (m : MachineData) (a : Actor) → is_some m.controller ≡ true → (needs : Bool) → Each (suits m a) (query_plan needs)
+query_suits m a is false = (is, λ b. tt)
+query_suits m a is true = (refl, λ b. (is, λ b. (refl, λ b. tt)))
 
 job_suits : (m : MachineData) (a : Actor) → IsMachine m → is_worker m a ≡ true → (j : Option Job) → JobIs m j → Each (suits m a) (job_plan m j)
 job_suits m a ok works None is = tt
 job_suits m a ok works (Some (job.Event n)) is = event_suits m a ok works n m.events (each_all (IsListed m) m.events ok.events)
-job_suits m a ok works (Some job.Query) is = (refl, λ b. (is, λ b. (refl, λ b. tt)))
+job_suits m a ok works (Some job.Query) is = query_suits m a is (glk m)
 job_suits m a ok works (Some (job.Code q)) is = code_suits m a ok works q (queries_in m) (each_all (IsQuery m) (queries_in m) ok.queries)
 
 first_suits : (m : MachineData) (a : Actor) → IsMachine m → Each (suits m a) (first_plan m a)
 first_suits m (actor.Firmware k) ok = at (slice_get m.firmware k) refl
   where
-    at : (o : Option (List Op)) → slice_get m.firmware k ≡ o → Each (suits m (actor.Firmware k)) (plan m.fields (unwrap_or o []))
+    at : (o : Option (List Op)) → slice_get m.firmware k ≡ o → Each (suits m (actor.Firmware k)) (plan (act_fields m) (unwrap_or o []))
     at None is = tt
     at (Some ops) is = script_suits m (actor.Firmware k) side.Firmware ops ok (lt-ltb k (length m.firmware) (slice_get_within m.firmware k ops is)) (each_all (IsHandler m side.Firmware) m.firmware ok.firmware k ops is)
 first_suits m _ ok = tt

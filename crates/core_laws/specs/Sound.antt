@@ -19,18 +19,19 @@ use Rattle.machine_history.specs.Wire.{Open, codes, open_of}
 
 -- ---- query codes (ACPI 6.5, section 12.3.5)
 
--- what is left of a query job once its worker owns the lock
-abbrev pub asking : Plan
-asking = plan_after 0 query_plan
+-- The request of a query job is next: its worker owns the lock, or the controller needs none.
+abbrev pub IsAsking : Plan → Type 0
+IsAsking p = (p ≡ plan_after 0 (query_plan true)) ⊎ (p ≡ query_plan false)
 
 -- of its own open transaction one move was made at most, the command
 abbrev pub IsEarly : Actor → Option Open → Type 0
 IsEarly w None = Unit {0}
 IsEarly w (Some o) = same_actor w o.by ≡ true → o.made ≤ 1
 
--- the Out of a query has not come: its worker does not own the lock yet, or it has not begun, or it waits for the Out
+-- The Out of a query has not come: its worker has yet to own the lock that the controller needs, or it has not begun, or it waits
+-- for the Out.
 abbrev pub IsBeforeOut : Actor → Plan → Option Open → Type 0
-IsBeforeOut w p o = (p ≡ query_plan) ⊎ ((p ≡ asking) × IsEarly w o)
+IsBeforeOut w p o = (p ≡ query_plan true) ⊎ (IsAsking p × IsEarly w o)
 
 -- a query job was made whose Out has not come: it waits for its start, or a worker runs it
 abbrev pub IsAsked : MachineData → List Entry → Type 0

@@ -12,7 +12,7 @@ use Rattle.handler_script.specs.Left.{left, stands}
 use Rattle.handler_script.specs.Parts.{access_needs, read_in, write_in}
 use Rattle.handler_script.specs.Plan.{plan}
 use Rattle.handler_script.proofs.Each.{each}
-use Rattle.machine_desc.specs.Machine.{MachineData}
+use Rattle.machine_desc.specs.Machine.{MachineData, act_fields}
 use Rattle.machine_core.specs.declared.course.Course.TheVariants as course
 use Rattle.machine_core.specs.declared.course.ScriptPlace.{ScriptPlace}
 use Rattle.machine_core.specs.Actors.{Stands, asks_no_query, left_in, script_at, stands_in}
@@ -46,7 +46,7 @@ writes kind.Controller field needs j byte = refl
 on_field : (field : Field) → IsTrueOn asks_no_query field
 on_field field = record {
   lock = λ n. (refl, refl);
-  burst = λ b. (refl, refl);
+  burst = λ held b. (refl, refl);
   read = λ held k below. reads field.kind field (access_needs field held) k;
   write = λ held k byte below. writes field.kind field (access_needs field held) k byte;
 }
@@ -60,4 +60,4 @@ begun-stands m p c is standing = at (script_at m p)
   where
     at : (o : Option (List Op)) → (stands_in m o c ≡ true) × Each asks_no_query (left_in m o c)
     at None = (refl, tt)
-    at (Some ops) = (standing m.fields ops, subst (Each asks_no_query) (sym (is m.fields ops)) (no_queries m.fields ops))
+    at (Some ops) = (standing (act_fields m) ops, subst (Each asks_no_query) (sym (is (act_fields m) ops)) (no_queries (act_fields m) ops))

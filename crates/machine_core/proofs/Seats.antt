@@ -9,7 +9,7 @@ use Rattle.acpi_regs.specs.declared.actor.Actor.TheVariants as actor
 use Rattle.handler_script.specs.declared.op.Op.{Op}
 use Rattle.handler_script.specs.Plan.{plan}
 use Rattle.machine_desc.specs.Kept.{IsMachine}
-use Rattle.machine_desc.specs.Machine.{MachineData}
+use Rattle.machine_desc.specs.Machine.{MachineData, act_fields}
 use Rattle.machine_core.specs.declared.actors.ActorState.{ActorState}
 use Rattle.machine_core.specs.Actors.{IsActor, IsActors, IsFirst, idle, plan_in, state_of}
 use Rattle.machine_history.specs.Scripts.{first_plan}
@@ -40,7 +40,7 @@ one_more states j n s are number few first =
       ];
     }
 
-plan_is : (m : MachineData) (o : Option (List Op)) → plan_in m o ≡ plan m.fields (unwrap_or o [])
+plan_is : (m : MachineData) (o : Option (List Op)) → plan_in m o ≡ plan (act_fields m) (unwrap_or o [])
 plan_is m None = refl
 plan_is m (Some ops) = refl
 

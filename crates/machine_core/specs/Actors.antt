@@ -19,7 +19,7 @@ use Rattle.handler_script.specs.Plan.{Plan, Do, End, next_act, plan, query_plan}
 use Rattle.machine_desc.specs.declared.machine.ListedEvent.{ListedEvent}
 use Rattle.machine_desc.specs.declared.machine.Query.{Query}
 use Rattle.machine_desc.specs.Kept.{queries_in}
-use Rattle.machine_desc.specs.Machine.{MachineData}
+use Rattle.machine_desc.specs.Machine.{MachineData, act_fields}
 use Rattle.machine_history.specs.declared.parts.Job.{Job}
 use Rattle.machine_history.specs.Jobs.{running, running_after}
 use Rattle.machine_history.specs.Scripts.{left_after, passes, plan_left}
@@ -51,18 +51,19 @@ script_at m (place.Query i) = query_handler_of (slice_get (queries_in m) i)
 
 abbrev pub plan_in : MachineData → Option (List Op) → Plan
 plan_in m None = End
-plan_in m (Some ops) = plan m.fields ops
+plan_in m (Some ops) = plan (act_fields m) ops
 
 -- ---- what is left
 
 abbrev pub left_in : MachineData → Option (List Op) → Cursor → Plan
 left_in m None c = End
-left_in m (Some ops) c = left m.fields ops c
+left_in m (Some ops) c = left (act_fields m) ops c
 
 abbrev pub query_left : QueryStage → Plan
-query_left stage.Lock = query_plan
+query_left stage.Lock = query_plan true
 query_left stage.Ask = Do true (act.Ask request.Qr) (λ _. Do false act.Unlock (λ _. End))
 query_left stage.Unlock = Do false act.Unlock (λ _. End)
+query_left stage.Alone = query_plan false
 
 -- what is left on a course
 abbrev pub left_by : MachineData → Course → Plan
@@ -72,7 +73,7 @@ left_by m (course.Script p c) = left_in m (script_at m p) c
 
 abbrev pub stands_in : MachineData → Option (List Op) → Cursor → Bool
 stands_in m None c = true
-stands_in m (Some ops) c = stands m.fields ops c
+stands_in m (Some ops) c = stands (act_fields m) ops c
 
 -- the act asks the controller for no query
 abbrev pub asks_no_query : Bool → Act → Bool

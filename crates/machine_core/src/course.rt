@@ -1,9 +1,9 @@
-//! How far an actor has come in what it has to do: in a script, in the three acts of a query job, or nowhere.
+//! How far an actor has come in what it has to do: in a script, in the acts of a query job, or nowhere.
 ghost use Rattle.std.specs.Prelude.{◌≡◌, [], IfOk, None, Some, MatchOption, slice_get, true, is_some, unwrap_or, List};
 ghost use Rattle.std.specs.Option.{option_copied};
-ghost use Rattle.handler_script.specs.Plan.{next_act, plan_after};
+ghost use Rattle.handler_script.specs.Plan.{next_act, plan_after, query_plan};
 ghost use Rattle.machine_desc.specs.declared.machine.ListedEvent.{ListedEvent};
-ghost use Rattle.machine_desc.specs.Machine.{MachineData};
+ghost use Rattle.machine_desc.specs.Machine.{MachineData, glk};
 ghost use Rattle.machine_history.specs.Machine.{query_in, script_in};
 ghost use Rattle.machine_history.specs.Scripts.{job_plan, left_after};
 ghost use Rattle.machine_core.specs.Actors.{FitsDeed, FitsNext, Stands, byte_of, handler_of, left_by, left_in, plan_in, query_handler_of, query_left, script_at, stands_in};
@@ -29,9 +29,14 @@ pub enum ScriptPlace {
 /// The next act of a query job (ACPI 6.5, section 12.3.5).
 #[derive(Clone, Copy, Debug)]
 pub enum QueryStage {
+    /// Takes the lock, which the controller needs.
     Lock,
+    /// Asks for the first code, under the lock.
     Ask,
+    /// Gives the lock back.
     Unlock,
+    /// Asks for the first code without the lock, and does nothing else: the controller needs no lock.
+    Alone,
 }
 
 /// What an actor has left.
@@ -46,6 +51,17 @@ pub enum Course {
 }
 
 impl QueryStage {
+    /// The first act of a query job of this machine.
+    fn first(machine: &Machine) -> QueryStage
+        ensures { query_left result ≡ query_plan (glk machine.now) }
+    {
+        if machine.glk() {
+            QueryStage::Lock
+        } else {
+            QueryStage::Alone
+        }
+    }
+
     fn act(self) -> Act
         ensures { next_act (query_left self) ≡ Some result }
     {
@@ -53,6 +69,7 @@ impl QueryStage {
             QueryStage::Lock => Act::Lock,
             QueryStage::Ask => Act::Ask(Request::Qr),
             QueryStage::Unlock => Act::Unlock,
+            QueryStage::Alone => Act::Ask(Request::Qr),
         }
     }
 }
@@ -73,7 +90,7 @@ impl Course {
     {
         match job {
             Some(Job::Event(event)) => Course::of_event(machine, event),
-            Some(Job::Query) => Course::Query(QueryStage::Lock),
+            Some(Job::Query) => Course::Query(QueryStage::first(machine)),
             Some(Job::Code(code)) => Course::of_code(machine, code),
             None => Course::Ended,
         }
@@ -147,6 +164,7 @@ impl Course {
             Course::Query(QueryStage::Lock) => Course::Query(QueryStage::Ask),
             Course::Query(QueryStage::Ask) => Course::Query(QueryStage::Unlock),
             Course::Query(QueryStage::Unlock) => Course::Ended,
+            Course::Query(QueryStage::Alone) => Course::Ended,
             Course::Script(place, cursor) => {
                 Course::Script(place, passed_in(machine, place, cursor, byte))
             }
@@ -192,7 +210,7 @@ fn next_in(machine: &Machine, place: ScriptPlace, cursor: Cursor) -> Option<Act>
 {
     machine.law_rules();
     match script_at(machine, place) {
-        Some(script) => cursor.next(script, machine.fields()),
+        Some(script) => cursor.next(script, machine.act_fields()),
         None => None,
     }
 }
@@ -207,7 +225,7 @@ fn passed_in(machine: &Machine, place: ScriptPlace, cursor: Cursor, byte: Option
     machine.law_rules();
     let mut passed = cursor;
     match script_at(machine, place) {
-        Some(script) => passed.answer(script, machine.fields(), byte),
+        Some(script) => passed.answer(script, machine.act_fields(), byte),
         None => {}
     }
     passed

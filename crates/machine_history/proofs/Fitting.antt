@@ -26,7 +26,8 @@ use Rattle.machine_desc.specs.declared.machine.ListedEvent.{ListedEvent}
 use Rattle.machine_desc.specs.declared.machine.Query.{Query}
 use Rattle.machine_desc.specs.Given.{HasCode, HaveCodes}
 use Rattle.machine_desc.specs.Kept.{IsField, IsHandler, IsListed, IsMachine, IsQuery, IsRegion, queries_in}
-use Rattle.machine_desc.specs.Machine.{MachineData}
+use Rattle.machine_desc.specs.Machine.{MachineData, act_fields, glk}
+use Rattle.machine_desc.proofs.Acting.{act_field}
 use Rattle.machine_desc.proofs.EachItem.{each_all}
 use Rattle.machine_history.specs.declared.parts.Job.{Job}
 use Rattle.machine_history.specs.declared.parts.Job.TheVariants as job
@@ -74,43 +75,43 @@ abbrev pub kind_in : Option RegionData → RegionKind → Type 0
 kind_in None k = ⊥
 kind_in (Some region) k = region.kind ≡ k
 
-pub within_field : (m : MachineData) → IsMachine m → (f : ℕ) (field : Field) (k : ℕ) → slice_get m.fields f ≡ Some field → k < byte_count field → first_byte field + k < field.len
-within_field m ok f field k at below = inside field.len field.bit field.width k (each_all (IsField m) m.fields ok.fields f field at).fits below
+pub within_field : (m : MachineData) → IsMachine m → (f : ℕ) (field : Field) (k : ℕ) → slice_get (act_fields m) f ≡ Some field → k < byte_count field → first_byte field + k < field.len
+within_field m ok f field k at below = inside field.len field.bit field.width k (act_field m ok f field at).fits below
 
-pub in_memory : (m : MachineData) → IsMachine m → (f : ℕ) (field : Field) (k : ℕ) → slice_get m.fields f ≡ Some field → field.kind ≡ kind.Memory → k < byte_count field → is_memory_cell m (cell_of field k) ≡ true
+pub in_memory : (m : MachineData) → IsMachine m → (f : ℕ) (field : Field) (k : ℕ) → slice_get (act_fields m) f ≡ Some field → field.kind ≡ kind.Memory → k < byte_count field → is_memory_cell m (cell_of field k) ≡ true
 in_memory m ok f field k at is below =
-    let kept : IsField m field = each_all (IsField m) m.fields ok.fields f field at in
+    let kept : IsField m field = act_field m ok f field at in
     let within : first_byte field + k < length kept.region.cells = subst (λ n. first_byte field + k < n) kept.len (within_field m ok f field k at below) in
     let plain : not (is_controller kept.region.kind) ≡ true = ap (λ x. not (is_controller x)) (sym kept.kind ∙ is) in
     rw (kept.named, plain) (lt-ltb _ _ within)
 
 -- an address of the controller's space
-pub addressed : (m : MachineData) → IsMachine m → (f : ℕ) (field : Field) (k : ℕ) → slice_get m.fields f ≡ Some field → field.kind ≡ kind.Controller → k < byte_count field → nat_lt (first_byte field + k) 256 ≡ true
+pub addressed : (m : MachineData) → IsMachine m → (f : ℕ) (field : Field) (k : ℕ) → slice_get (act_fields m) f ≡ Some field → field.kind ≡ kind.Controller → k < byte_count field → nat_lt (first_byte field + k) 256 ≡ true
 addressed m ok f field k at is below =
-    let kept : IsField m field = each_all (IsField m) m.fields ok.fields f field at in
+    let kept : IsField m field = act_field m ok f field at in
     let whole : length kept.region.cells ≡ 256 = (each_all (IsRegion m) m.regions ok.regions field.region kept.region kept.named).address (ap is_controller (sym kept.kind ∙ is)) in
     lt-ltb _ _ (subst (λ n. first_byte field + k < n) (kept.len ∙ whole) (within_field m ok f field k at below))
 
-pub reads : (m : MachineData) → IsMachine m → (f : ℕ) (field : Field) (needs : Bool) (k : ℕ) (of_kind : RegionKind) → slice_get m.fields f ≡ Some field → field.kind ≡ of_kind → k < byte_count field → fits m needs (read_in of_kind field k) ≡ true
+pub reads : (m : MachineData) → IsMachine m → (f : ℕ) (field : Field) (needs : Bool) (k : ℕ) (of_kind : RegionKind) → slice_get (act_fields m) f ≡ Some field → field.kind ≡ of_kind → k < byte_count field → fits m needs (read_in of_kind field k) ≡ true
 reads m ok f field needs k kind.Memory at is below = in_memory m ok f field k at is below
 reads m ok f field needs k kind.Controller at is below = addressed m ok f field k at is below
 
-pub writes : (m : MachineData) → IsMachine m → (f : ℕ) (field : Field) (needs : Bool) (k byte : ℕ) (of_kind : RegionKind) → slice_get m.fields f ≡ Some field → field.kind ≡ of_kind → k < byte_count field → fits m needs (write_in of_kind field k byte) ≡ true
+pub writes : (m : MachineData) → IsMachine m → (f : ℕ) (field : Field) (needs : Bool) (k byte : ℕ) (of_kind : RegionKind) → slice_get (act_fields m) f ≡ Some field → field.kind ≡ of_kind → k < byte_count field → fits m needs (write_in of_kind field k byte) ≡ true
 writes m ok f field needs k byte kind.Memory at is below = in_memory m ok f field k at is below
 writes m ok f field needs k byte kind.Controller at is below = addressed m ok f field k at is below
 
-pub on_field : (m : MachineData) → IsMachine m → (f : ℕ) (field : Field) → slice_get m.fields f ≡ Some field → IsTrueOn (fits m) field
+pub on_field : (m : MachineData) → IsMachine m → (f : ℕ) (field : Field) → slice_get (act_fields m) f ≡ Some field → IsTrueOn (fits m) field
 on_field m ok f field at = record {
   lock = λ n. (refl, refl);
-  burst = λ b. (refl, refl);
+  burst = λ held b. (refl, refl);
   read = λ held k below. reads m ok f field (access_needs field held) k field.kind at refl below;
   write = λ held k byte below. writes m ok f field (access_needs field held) k byte field.kind at refl below;
 }
 
 -- ---- a script
 
-pub of_script : (m : MachineData) → IsMachine m → (ops : List Op) → HaveCodes ops → Each (fits m) (plan m.fields ops)
-of_script m ok ops codes = each (fits m) m.fields ops (on_field m ok) (λ i o a at is. alone m o a (each_all HasCode ops codes i o at) is)
+pub of_script : (m : MachineData) → IsMachine m → (ops : List Op) → HaveCodes ops → Each (fits m) (plan (act_fields m) ops)
+of_script m ok ops codes = each (fits m) (act_fields m) ops (on_field m ok) (λ i o a at is. alone m o a (each_all HasCode ops codes i o at) is)
 
 pub none_pushed : HaveCodes []
 none_pushed k d below = absurd (omega arith)
@@ -132,13 +133,14 @@ pub of_queries : (m : MachineData) (queries : List Query) (q : ℕ) → ((i : �
 of_queries m [] q all = none_pushed
 of_queries m (h ∷ queries) q all = either (h.code == q) h.script (query_in queries q) (all 0 h refl) (of_queries m queries q (λ i. all (suc i)))
 
-pub of_query : (m : MachineData) → Each (fits m) query_plan
-of_query m = (refl, λ _. (refl, λ _. (refl, λ _. tt)))
+pub of_query : (m : MachineData) (needs : Bool) → Each (fits m) (query_plan needs)
+of_query m false = (refl, λ _. tt)
+of_query m true = (refl, λ _. (refl, λ _. (refl, λ _. tt)))
 
 pub of_job : (m : MachineData) → IsMachine m → (j : Option Job) → Each (fits m) (job_plan m j)
 of_job m ok None = tt
 of_job m ok (Some (job.Event n)) = of_script m ok (event_script m n) (of_events m m.events n (λ i l at. (each_all (IsListed m) m.events ok.events i l at).script.codes))
-of_job m ok (Some job.Query) = of_query m
+of_job m ok (Some job.Query) = of_query m (glk m)
 of_job m ok (Some (job.Code q)) = of_script m ok (code_script m q) (of_queries m (queries_in m) q (λ i h at. (each_all (IsQuery m) (queries_in m) ok.queries i h at).script.codes))
 
 pub at_first : (m : MachineData) → IsMachine m → (a : Actor) → Each (fits m) (first_plan m a)

@@ -22,14 +22,14 @@ use Rattle.handler_script.specs.declared.op.Op.{Op}
 use Rattle.handler_script.specs.declared.op.Op.TheVariants as op
 use Rattle.handler_script.specs.Accepts.{Accepted, faults_from, first_of, is_allowed, is_balanced, is_known as is_named, is_sound_skip, open_after, script_fault}
 use Rattle.handler_script.specs.Costs.{Costs, IsUniform, ops_cost}
-use Rattle.handler_script.specs.Plan.{plan}
+use Rattle.handler_script.specs.Plan.{plan, query_plan}
 use Rattle.handler_script.proofs.Costs.{costs, more}
 use Rattle.machine_desc.specs.declared.machine.ListedEvent.{ListedEvent}
 use Rattle.machine_desc.specs.declared.machine.Query.{Query}
 use Rattle.machine_desc.specs.declared.tally.Tally.{Tally}
 use Rattle.machine_desc.specs.declared.tally.Tally.TheVariants as tally
 use Rattle.machine_desc.specs.Kept.{IsDevice, IsHandler, IsListed, IsMachine, IsOwnEvent, IsQuery, blocks_in, listed_in, own_event, queries_in}
-use Rattle.machine_desc.specs.Machine.{MachineData}
+use Rattle.machine_desc.specs.Machine.{MachineData, act_fields, glk}
 use Rattle.machine_desc.specs.Rules.{forbids, is_event_of, is_in_block, is_known, is_level, is_listed}
 use Rattle.machine_desc.specs.Weight.{calls_of, counted, in_devices, in_firmware, in_script, one_if, runs_of}
 use Rattle.machine_desc.proofs.EachItem.{Each, any_mapped, each_all}
@@ -290,31 +290,36 @@ unlisted_unknown m n unlisted not_gbl not_own =
 -- what scripts are worth at a price: no less than their operations cost
 pub record Covers (m : MachineData) (f : Act → ℕ) (c : List Op → ℕ) : Type 0 where
   pub uniform : IsUniform f
-  pub within : (ops : List Op) → ops_cost f m.fields false ops ≤ c ops
+  pub within : (ops : List Op) → ops_cost f (act_fields m) false ops ≤ c ops
   pub empty : c [] ≡ 0
 
-pub script_costs : (m : MachineData) (f : Act → ℕ) (c : List Op → ℕ) → Covers m f c → (ops : List Op) → Accepted m.fields ops → Costs f (plan m.fields ops) (c ops)
-script_costs m f c covers ops accepted = more f (plan m.fields ops) (ops_cost f m.fields false ops) (c ops) (covers.within ops) (costs f m.fields ops covers.uniform accepted)
+pub script_costs : (m : MachineData) (f : Act → ℕ) (c : List Op → ℕ) → Covers m f c → (ops : List Op) → Accepted (act_fields m) ops → Costs f (plan (act_fields m) ops) (c ops)
+script_costs m f c covers ops accepted = more f (plan (act_fields m) ops) (ops_cost f (act_fields m) false ops) (c ops) (covers.within ops) (costs f (act_fields m) ops covers.uniform accepted)
 
-pub event_costs : (m : MachineData) (f : Act → ℕ) (c : List Op → ℕ) → Covers m f c → (n : Event) (ls : List ListedEvent) → Each (IsListed m) ls → Costs f (plan m.fields (script_in ls n)) (c (script_in ls n))
+pub event_costs : (m : MachineData) (f : Act → ℕ) (c : List Op → ℕ) → Covers m f c → (n : Event) (ls : List ListedEvent) → Each (IsListed m) ls → Costs f (plan (act_fields m) (script_in ls n)) (c (script_in ls n))
 event_costs m f c covers n [] each = tt
 event_costs m f c covers n (l ∷ ls) each = at (same_event l.listed.event n) (event_costs m f c covers n ls (λ k x at. each (suc k) x at))
   where
-    at : (b : Bool) → Costs f (plan m.fields (script_in ls n)) (c (script_in ls n)) → Costs f (plan m.fields (if b then l.script else script_in ls n)) (c (if b then l.script else script_in ls n))
+    at : (b : Bool) → Costs f (plan (act_fields m) (script_in ls n)) (c (script_in ls n)) → Costs f (plan (act_fields m) (if b then l.script else script_in ls n)) (c (if b then l.script else script_in ls n))
     at true rest = script_costs m f c covers l.script (each zero l refl).script.accepted
     at false rest = rest
 
-pub query_costs : (m : MachineData) (f : Act → ℕ) (c : List Op → ℕ) → Covers m f c → (q : ℕ) (queries : List Query) → Each (IsQuery m) queries → Costs f (plan m.fields (query_in queries q)) (c (query_in queries q))
+pub query_costs : (m : MachineData) (f : Act → ℕ) (c : List Op → ℕ) → Covers m f c → (q : ℕ) (queries : List Query) → Each (IsQuery m) queries → Costs f (plan (act_fields m) (query_in queries q)) (c (query_in queries q))
 query_costs m f c covers q [] each = tt
 query_costs m f c covers q (h ∷ queries) each = at (nat_eq h.code q) (query_costs m f c covers q queries (λ k x at. each (suc k) x at))
   where
-    at : (b : Bool) → Costs f (plan m.fields (query_in queries q)) (c (query_in queries q)) → Costs f (plan m.fields (if b then h.script else query_in queries q)) (c (if b then h.script else query_in queries q))
+    at : (b : Bool) → Costs f (plan (act_fields m) (query_in queries q)) (c (query_in queries q)) → Costs f (plan (act_fields m) (if b then h.script else query_in queries q)) (c (if b then h.script else query_in queries q))
     at true rest = script_costs m f c covers h.script (each zero h refl).script.accepted
     at false rest = rest
 
 -- what a query job costs
 abbrev pub query_price : (Act → ℕ) → ℕ
 query_price f = f act.Lock + (f (act.Ask request.Qr) + (f act.Unlock + 0))
+
+-- a query that takes no lock costs less
+pub asking_costs : (f : Act → ℕ) (needs : Bool) → Costs f (query_plan needs) (query_price f)
+asking_costs f false = (0, omega arith, λ byte. tt)
+asking_costs f true = (f (act.Ask request.Qr) + (f act.Unlock + 0), omega arith, λ byte. (f act.Unlock + 0, omega arith, λ byte. (0, omega arith, λ byte. tt)))
 
 -- what a job is worth
 abbrev pub job_worth : (List Op → ℕ) → ℕ → MachineData → Option Job → ℕ
@@ -326,7 +331,7 @@ job_worth c q m (Some (job.Code k)) = c (code_script m k)
 pub jobs_cost : (m : MachineData) (f : Act → ℕ) (c : List Op → ℕ) → IsMachine m → Covers m f c → JobsCost f m (job_worth c (query_price f) m)
 jobs_cost m f c ok covers None = tt
 jobs_cost m f c ok covers (Some (job.Event n)) = event_costs m f c covers n m.events (listed_each m ok)
-jobs_cost m f c ok covers (Some job.Query) = (f (act.Ask request.Qr) + (f act.Unlock + 0), omega arith, λ byte. (f act.Unlock + 0, omega arith, λ byte. (0, omega arith, λ byte. tt)))
+jobs_cost m f c ok covers (Some job.Query) = asking_costs f (glk m)
 jobs_cost m f c ok covers (Some (job.Code k)) = query_costs m f c covers k (queries_in m) (each_all (IsQuery m) (queries_in m) ok.queries)
 
 -- what an actor has before it at the start
@@ -334,7 +339,7 @@ abbrev pub first_worth : (List Op → ℕ) → MachineData → Actor → ℕ
 first_worth c m (actor.Firmware k) = c (script_of m k)
 first_worth c m _ = 0
 
-pub found_costs : (m : MachineData) (f : Act → ℕ) (c : List Op → ℕ) → Covers m f c → (found : Option (List Op)) → ((ops : List Op) → found ≡ Some ops → IsHandler m side.Firmware ops) → Costs f (plan m.fields (unwrap_or found [])) (c (unwrap_or found []))
+pub found_costs : (m : MachineData) (f : Act → ℕ) (c : List Op → ℕ) → Covers m f c → (found : Option (List Op)) → ((ops : List Op) → found ≡ Some ops → IsHandler m side.Firmware ops) → Costs f (plan (act_fields m) (unwrap_or found [])) (c (unwrap_or found []))
 found_costs m f c covers None each = tt
 found_costs m f c covers (Some ops) each = script_costs m f c covers ops (each ops refl).accepted
 

@@ -25,12 +25,12 @@ use Rattle.handler_script.specs.declared.act.Act.{Act}
 use Rattle.handler_script.specs.declared.act.Act.TheVariants as act
 use Rattle.handler_script.specs.declared.op.Op.{Op}
 use Rattle.handler_script.specs.Locked.{Locked, held_by}
-use Rattle.handler_script.specs.Plan.{Plan, Do, End, next_act, plan, plan_after}
+use Rattle.handler_script.specs.Plan.{Plan, Do, End, next_act, plan, plan_after, query_plan}
 use Rattle.handler_script.proofs.Locks.{plan_locked as locked}
 use Rattle.machine_desc.specs.declared.machine.ListedEvent.{ListedEvent}
 use Rattle.machine_desc.specs.declared.machine.Query.{Query}
 use Rattle.machine_desc.specs.Kept.{IsHandler, IsListed, IsMachine, IsQuery, queries_in}
-use Rattle.machine_desc.specs.Machine.{MachineData}
+use Rattle.machine_desc.specs.Machine.{MachineData, act_fields, glk}
 use Rattle.machine_desc.proofs.EachItem.{Each, each_all}
 use Rattle.machine_history.specs.declared.parts.Access.{Access}
 use Rattle.machine_history.specs.declared.parts.Job.{Job}
@@ -66,34 +66,38 @@ needs_held (Do false a rest) held all needs = cc
 
 -- ---- the plans of a machine
 
-pub handler_locked : (m : MachineData) (found : Option (List Op)) → ((ops : List Op) → found ≡ Some ops → IsHandler m side.Firmware ops) → Locked false (plan m.fields (unwrap_or found []))
+pub handler_locked : (m : MachineData) (found : Option (List Op)) → ((ops : List Op) → found ≡ Some ops → IsHandler m side.Firmware ops) → Locked false (plan (act_fields m) (unwrap_or found []))
 handler_locked m None each = refl
-handler_locked m (Some ops) each = locked m.fields ops (each ops refl).accepted
+handler_locked m (Some ops) each = locked (act_fields m) ops (each ops refl).accepted
 
 pub first_locked : (m : MachineData) → IsMachine m → (a : Actor) → Locked false (first_plan m a)
 first_locked m ok (actor.Firmware k) = handler_locked m (slice_get m.firmware k) (λ ops is. each_all (IsHandler m side.Firmware) m.firmware ok.firmware k ops is)
 first_locked m ok _ = refl
 
-pub event_locked : (m : MachineData) (n : Event) (ls : List ListedEvent) → Each (IsListed m) ls → Locked false (plan m.fields (script_in ls n))
+pub event_locked : (m : MachineData) (n : Event) (ls : List ListedEvent) → Each (IsListed m) ls → Locked false (plan (act_fields m) (script_in ls n))
 event_locked m n [] each = refl
 event_locked m n (l ∷ ls) each = at (same_event l.listed.event n) (event_locked m n ls (λ k x at. each (suc k) x at))
   where
-    at : (b : Bool) → Locked false (plan m.fields (script_in ls n)) → Locked false (plan m.fields (if b then l.script else script_in ls n))
-    at true rest = locked m.fields l.script (each zero l refl).script.accepted
+    at : (b : Bool) → Locked false (plan (act_fields m) (script_in ls n)) → Locked false (plan (act_fields m) (if b then l.script else script_in ls n))
+    at true rest = locked (act_fields m) l.script (each zero l refl).script.accepted
     at false rest = rest
 
-pub code_locked : (m : MachineData) (q : ℕ) (queries : List Query) → Each (IsQuery m) queries → Locked false (plan m.fields (query_in queries q))
+pub code_locked : (m : MachineData) (q : ℕ) (queries : List Query) → Each (IsQuery m) queries → Locked false (plan (act_fields m) (query_in queries q))
 code_locked m q [] each = refl
 code_locked m q (h ∷ queries) each = at (nat_eq h.code q) (code_locked m q queries (λ k x at. each (suc k) x at))
   where
-    at : (b : Bool) → Locked false (plan m.fields (query_in queries q)) → Locked false (plan m.fields (if b then h.script else query_in queries q))
-    at true rest = locked m.fields h.script (each zero h refl).script.accepted
+    at : (b : Bool) → Locked false (plan (act_fields m) (query_in queries q)) → Locked false (plan (act_fields m) (if b then h.script else query_in queries q))
+    at true rest = locked (act_fields m) h.script (each zero h refl).script.accepted
     at false rest = rest
+
+pub query_locked : (needs : Bool) → Locked false (query_plan needs)
+query_locked false = (refl, refl, λ b. refl)
+query_locked true = (refl, refl, λ b. (refl, refl, λ b. (refl, refl, λ b. refl)))
 
 pub job_locked : (m : MachineData) → IsMachine m → (j : Option Job) → Locked false (job_plan m j)
 job_locked m ok None = refl
 job_locked m ok (Some (job.Event n)) = event_locked m n m.events (each_all (IsListed m) m.events ok.events)
-job_locked m ok (Some job.Query) = (refl, refl, λ b. (refl, refl, λ b. (refl, refl, λ b. refl)))
+job_locked m ok (Some job.Query) = query_locked (glk m)
 job_locked m ok (Some (job.Code q)) = code_locked m q (queries_in m) (each_all (IsQuery m) (queries_in m) ok.queries)
 
 -- ---- the plan that is left stands at the actor's stage

@@ -16,9 +16,9 @@ use Rattle.handler_script.specs.declared.op.Op.{Op}
 use Rattle.handler_script.specs.declared.op.Op.TheVariants as op
 use Rattle.handler_script.specs.Each.{Each, IsTrueOn, act_alone}
 use Rattle.handler_script.specs.Parts.{access_needs, read_in, write_in}
-use Rattle.handler_script.specs.Plan.{Plan, Do, End, next_act, plan, plan_after}
+use Rattle.handler_script.specs.Plan.{Plan, Do, End, next_act, plan, plan_after, query_plan}
 use Rattle.handler_script.proofs.Each.{each}
-use Rattle.machine_desc.specs.Machine.{MachineData}
+use Rattle.machine_desc.specs.Machine.{MachineData, act_fields, glk}
 use Rattle.machine_history.specs.declared.parts.Job.{Job}
 use Rattle.machine_history.specs.declared.parts.Job.TheVariants as job
 use Rattle.machine_history.specs.Jobs.{jobs}
@@ -72,15 +72,15 @@ after_each P (Do needs a next) byte all = all.1 byte
 pub record IsFree (P : Bool → Act → Bool) : Type 0 where
   pub lock : P false act.Lock ≡ true
   pub unlock : P false act.Unlock ≡ true
-  pub be : P true (act.Ask request.Be) ≡ true
-  pub bd : P true (act.Ask request.Bd) ≡ true
+  pub be : (needs : Bool) → P needs (act.Ask request.Be) ≡ true
+  pub bd : (needs : Bool) → P needs (act.Ask request.Bd) ≡ true
   pub reads : (needs : Bool) (of_kind : RegionKind) (field : Field) (k : ℕ) → P needs (read_in of_kind field k) ≡ true
   pub writes : (needs : Bool) (of_kind : RegionKind) (field : Field) (k byte : ℕ) → P needs (write_in of_kind field k byte) ≡ true
 
 pub on_fields : (P : Bool → Act → Bool) → IsFree P → (field : Field) → IsTrueOn P field
 on_fields P free field = record {
   lock = λ n. (free.lock, free.unlock);
-  burst = λ b. (free.be, free.bd);
+  burst = λ held b. (free.be (access_needs field held), free.bd (access_needs field held));
   read = λ held k below. free.reads (access_needs field held) field.kind field k;
   write = λ held k byte below. free.writes (access_needs field held) field.kind field k byte;
 }
@@ -111,7 +111,7 @@ none_writes needs kind.Memory field k byte = refl
 none_writes needs kind.Controller field k byte = refl
 
 pub none_free : IsFree asks_none
-none_free = record { lock = refl; unlock = refl; be = refl; bd = refl; reads = none_reads; writes = none_writes }
+none_free = record { lock = refl; unlock = refl; be = λ needs. refl; bd = λ needs. refl; reads = none_reads; writes = none_writes }
 
 pub none_alone : (o : Op) (a : Act) → act_alone o ≡ Some a → asks_none false a ≡ true
 none_alone (op.Read f) a is = cc
@@ -140,14 +140,18 @@ pub script_steady : (fields : List Field) (ops : List Op) → Steady (plan field
 script_steady fields ops = each_steady (plan fields ops) (script_each asks_none none_free fields ops (λ i o a at is. none_alone o a is))
 
 pub first_steady : (m : MachineData) (a : Actor) → Steady (first_plan m a)
-first_steady m (actor.Firmware k) = script_steady m.fields (script_of m k)
+first_steady m (actor.Firmware k) = script_steady (act_fields m) (script_of m k)
 first_steady m _ = tt
+
+pub query_steady : (needs : Bool) → Steady (query_plan needs)
+query_steady false = ((λ asks byte. refl), λ b. tt)
+query_steady true = ((λ asks byte. refl), λ b. ((λ asks byte. refl), λ b. ((λ asks byte. refl), λ b. tt)))
 
 pub job_steady : (m : MachineData) (j : Option Job) → Steady (job_plan m j)
 job_steady m None = tt
-job_steady m (Some (job.Event n)) = script_steady m.fields (event_script m n)
-job_steady m (Some job.Query) = ((λ asks byte. refl), λ b. ((λ asks byte. refl), λ b. ((λ asks byte. refl), λ b. tt)))
-job_steady m (Some (job.Code q)) = script_steady m.fields (code_script m q)
+job_steady m (Some (job.Event n)) = script_steady (act_fields m) (event_script m n)
+job_steady m (Some job.Query) = query_steady (glk m)
+job_steady m (Some (job.Code q)) = script_steady (act_fields m) (code_script m q)
 
 pub after_steady : (p : Plan) (byte : ℕ) → Steady p → Steady (plan_after byte p)
 after_steady End byte steady = tt

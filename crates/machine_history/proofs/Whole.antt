@@ -14,7 +14,7 @@ use Rattle.machine_desc.specs.declared.machine.ListedEvent.{ListedEvent}
 use Rattle.machine_desc.specs.declared.machine.Query.{Query}
 use Rattle.machine_desc.specs.declared.tally.Tally.TheVariants as tally
 use Rattle.machine_desc.specs.Kept.{IsListed, IsMachine, event_of_controller, own_event, queries_in as handlers_in}
-use Rattle.machine_desc.specs.Machine.{MachineData}
+use Rattle.machine_desc.specs.Machine.{MachineData, act_fields}
 use Rattle.machine_desc.specs.Weight.{all_moves, calls_of, event_moves, event_size, events_moves, events_size, firmware_moves, firmware_size, in_firmware, in_script, own_calls, own_claims, pushes, queries_asked, queries_moves, queries_size, query_moves, query_size, runs_of, script_moves, script_size, weight_by, weight_of}
 use Rattle.machine_history.specs.declared.parts.Job.{Job}
 use Rattle.machine_history.specs.declared.parts.Job.TheVariants as job
@@ -41,53 +41,53 @@ use Rattle.machine_history.proofs.Wires.{begins_price, is_qr, moves_in, query_mo
 abbrev pub no_worth : List Op → ℕ
 no_worth ops = 0
 
-pub covers_entries : (m : MachineData) → Covers m entries_price (script_size m.fields)
+pub covers_entries : (m : MachineData) → Covers m entries_price (script_size (act_fields m))
 unfolding script_size
-covers_entries m = record { uniform = uniform_entries; within = entries_within m.fields; empty = refl }
+covers_entries m = record { uniform = uniform_entries; within = entries_within (act_fields m); empty = refl }
 
-pub covers_moves : (m : MachineData) → Covers m moves_price (script_moves m.fields)
+pub covers_moves : (m : MachineData) → Covers m moves_price (script_moves (act_fields m))
 unfolding script_moves
-covers_moves m = record { uniform = uniform_moves; within = moves_within m.fields; empty = refl }
+covers_moves m = record { uniform = uniform_moves; within = moves_within (act_fields m); empty = refl }
 
 pub covers_queries : (m : MachineData) → Covers m queries_price no_worth
-covers_queries m = record { uniform = uniform_queries; within = queries_none m.fields false; empty = refl }
+covers_queries m = record { uniform = uniform_queries; within = queries_none (act_fields m) false; empty = refl }
 
 pub covers_lifts : (m : MachineData) (n : Event) → Covers m (lifts n) (in_script (tally.Runs n))
 unfolding in_script
-covers_lifts m n = record { uniform = uniform_lifts n; within = lifts_within n m.fields; empty = refl }
+covers_lifts m n = record { uniform = uniform_lifts n; within = lifts_within n (act_fields m); empty = refl }
 
 pub covers_pushes : (m : MachineData) (g : ℕ → ℕ) → Covers m (pushes_price g) (sum_of (push_of g))
-covers_pushes m g = record { uniform = uniform_pushes g; within = pushes_from g m.fields false; empty = refl }
+covers_pushes m g = record { uniform = uniform_pushes g; within = pushes_from g (act_fields m) false; empty = refl }
 
 -- ---- the weight's sums, written plainly
 
-pub size_empty : (m : MachineData) → script_size m.fields [] ≡ 0
+pub size_empty : (m : MachineData) → script_size (act_fields m) [] ≡ 0
 size_empty m = (covers_entries m).empty
 
-pub moves_empty : (m : MachineData) → script_moves m.fields [] ≡ 0
+pub moves_empty : (m : MachineData) → script_moves (act_fields m) [] ≡ 0
 moves_empty m = (covers_moves m).empty
 
-pub firmware_size-is : (m : MachineData) → firmware_size m ≡ sum_of (script_size m.fields) m.firmware
+pub firmware_size-is : (m : MachineData) → firmware_size m ≡ sum_of (script_size (act_fields m)) m.firmware
 unfolding firmware_size
-firmware_size-is m = sums-same (script_size m.fields) m.firmware
+firmware_size-is m = sums-same (script_size (act_fields m)) m.firmware
 
-pub firmware_moves-is : (m : MachineData) → firmware_moves m ≡ sum_of (script_moves m.fields) m.firmware
+pub firmware_moves-is : (m : MachineData) → firmware_moves m ≡ sum_of (script_moves (act_fields m)) m.firmware
 unfolding firmware_moves
-firmware_moves-is m = sums-same (script_moves m.fields) m.firmware
+firmware_moves-is m = sums-same (script_moves (act_fields m)) m.firmware
 
-pub events_size-is : (m : MachineData) → events_size m ≡ sum_of (λ (l : ListedEvent). runs_of m l.listed.event * (3 + script_size m.fields l.script)) m.events
+pub events_size-is : (m : MachineData) → events_size m ≡ sum_of (λ (l : ListedEvent). runs_of m l.listed.event * (3 + script_size (act_fields m) l.script)) m.events
 unfolding events_size
 events_size-is m = sums-same (event_size m) m.events
 
-pub events_moves-is : (m : MachineData) → events_moves m ≡ sum_of (λ (l : ListedEvent). runs_of m l.listed.event * script_moves m.fields l.script) m.events
+pub events_moves-is : (m : MachineData) → events_moves m ≡ sum_of (λ (l : ListedEvent). runs_of m l.listed.event * script_moves (act_fields m) l.script) m.events
 unfolding events_moves
 events_moves-is m = sums-same (event_moves m) m.events
 
-pub queries_size-is : (m : MachineData) → queries_size m ≡ sum_of (λ (h : Query). in_firmware (tally.Code h.code) m.firmware * script_size m.fields h.script) (handlers_in m)
+pub queries_size-is : (m : MachineData) → queries_size m ≡ sum_of (λ (h : Query). in_firmware (tally.Code h.code) m.firmware * script_size (act_fields m) h.script) (handlers_in m)
 unfolding queries_size
 queries_size-is m = sums-same (query_size m) (handlers_in m)
 
-pub queries_moves-is : (m : MachineData) → queries_moves m ≡ sum_of (λ (h : Query). in_firmware (tally.Code h.code) m.firmware * script_moves m.fields h.script) (handlers_in m)
+pub queries_moves-is : (m : MachineData) → queries_moves m ≡ sum_of (λ (h : Query). in_firmware (tally.Code h.code) m.firmware * script_moves (act_fields m) h.script) (handlers_in m)
 unfolding queries_moves
 queries_moves-is m = sums-same (query_moves m) (handlers_in m)
 
@@ -171,17 +171,17 @@ codes_within g m ok past legal =
     let scripts = firmware_charged (pushes_price g) (sum_of (push_of g)) m ok (covers_pushes m g) (pushes_by m g) past legal in
     omega arith
 
-pub code_sizes : (m : MachineData) → IsMachine m → (past : List Entry) → LegalPast m past → total (code_jobs_in (code_worth 2 (script_size m.fields) m) m) past ≤ 2 * pushes m + queries_size m
+pub code_sizes : (m : MachineData) → IsMachine m → (past : List Entry) → LegalPast m past → total (code_jobs_in (code_worth 2 (script_size (act_fields m)) m) m) past ≤ 2 * pushes m + queries_size m
 code_sizes m ok past legal =
-    let runs = codes_within (code_worth 2 (script_size m.fields) m) m ok past legal in
-    let handled = all_handled 2 (script_size m.fields) (handlers_in m) (size_empty m) m.firmware in
+    let runs = codes_within (code_worth 2 (script_size (act_fields m)) m) m ok past legal in
+    let handled = all_handled 2 (script_size (act_fields m)) (handlers_in m) (size_empty m) m.firmware in
     let is = queries_size-is m in
     omega arith
 
-pub code_moves : (m : MachineData) → IsMachine m → (past : List Entry) → LegalPast m past → total (code_jobs_in (code_worth 0 (script_moves m.fields) m) m) past ≤ queries_moves m
+pub code_moves : (m : MachineData) → IsMachine m → (past : List Entry) → LegalPast m past → total (code_jobs_in (code_worth 0 (script_moves (act_fields m)) m) m) past ≤ queries_moves m
 code_moves m ok past legal =
-    let runs = codes_within (code_worth 0 (script_moves m.fields) m) m ok past legal in
-    let handled = all_handled 0 (script_moves m.fields) (handlers_in m) (moves_empty m) m.firmware in
+    let runs = codes_within (code_worth 0 (script_moves (act_fields m)) m) m ok past legal in
+    let handled = all_handled 0 (script_moves (act_fields m)) (handlers_in m) (moves_empty m) m.firmware in
     let is = queries_moves-is m in
     omega arith
 
@@ -224,13 +224,13 @@ pub moves_bound : (m : MachineData) → IsMachine m → (past : List Entry) → 
 moves_bound m ok past legal =
     let wire = wire_moves m past legal in
     let begins = moves_charge past in
-    let paid = all_charged moves_price (script_moves m.fields) m ok (covers_moves m) past legal in
-    let same = started_zero (script_moves m.fields) 0 m past in
-    let made = few_started (worth 0 (script_moves m.fields) 0 m) m past legal in
-    let split = all_made 0 (script_moves m.fields) 0 m past in
-    let runs = bound_runs m (listed_worth 0 (script_moves m.fields)) ok past legal in
-    let listed = sum-each (IsListed m) (λ (l : ListedEvent). runs_of m l.listed.event * listed_worth 0 (script_moves m.fields) l) (λ (l : ListedEvent). runs_of m l.listed.event * script_moves m.fields l.script) m.events (listed_each m ok)
-    (λ l kept. plain (runs_of m l.listed.event) (script_moves m.fields l.script)) in
+    let paid = all_charged moves_price (script_moves (act_fields m)) m ok (covers_moves m) past legal in
+    let same = started_zero (script_moves (act_fields m)) 0 m past in
+    let made = few_started (worth 0 (script_moves (act_fields m)) 0 m) m past legal in
+    let split = all_made 0 (script_moves (act_fields m)) 0 m past in
+    let runs = bound_runs m (listed_worth 0 (script_moves (act_fields m))) ok past legal in
+    let listed = sum-each (IsListed m) (λ (l : ListedEvent). runs_of m l.listed.event * listed_worth 0 (script_moves (act_fields m)) l) (λ (l : ListedEvent). runs_of m l.listed.event * script_moves (act_fields m) l.script) m.events (listed_each m ok)
+    (λ l kept. plain (runs_of m l.listed.event) (script_moves (act_fields m) l.script)) in
     let codes = code_moves m ok past legal in
     let firmware = firmware_moves-is m in
     let events = events_moves-is m in
@@ -411,18 +411,18 @@ worth_two c q m (e ∷ past) = let before = worth_two c q m past in let here = s
     same p (deed.Start j) = omega arith
     same p _ = omega arith
 
-pub three_sum : (m : MachineData) (past : List Entry) (ls : List ListedEvent) → sum_of (λ (l : ListedEvent). total (takes m l.listed.event) past * 1) ls + sum_of (λ (l : ListedEvent). total (takes m l.listed.event) past * listed_worth 2 (script_size m.fields) l) ls ≡ sum_of (λ (l : ListedEvent). total (takes m l.listed.event) past * (3 + script_size m.fields l.script)) ls
+pub three_sum : (m : MachineData) (past : List Entry) (ls : List ListedEvent) → sum_of (λ (l : ListedEvent). total (takes m l.listed.event) past * 1) ls + sum_of (λ (l : ListedEvent). total (takes m l.listed.event) past * listed_worth 2 (script_size (act_fields m)) l) ls ≡ sum_of (λ (l : ListedEvent). total (takes m l.listed.event) past * (3 + script_size (act_fields m) l.script)) ls
 three_sum m past [] = refl
 three_sum m past (l ∷ ls) = let rest = three_sum m past ls in omega arith
 
 pub fifteen : (x : ℕ) → x * (2 + 13) ≡ 15 * x
 fifteen x = omega arith
 
-pub listed_bound : (m : MachineData) → IsMachine m → (past : List Entry) → LegalPast m past → total (listed_part (λ l. 1) m m.events) past + sum_of (λ (l : ListedEvent). total (takes m l.listed.event) past * listed_worth 2 (script_size m.fields) l) m.events ≤ events_size m
+pub listed_bound : (m : MachineData) → IsMachine m → (past : List Entry) → LegalPast m past → total (listed_part (λ l. 1) m m.events) past + sum_of (λ (l : ListedEvent). total (takes m l.listed.event) past * listed_worth 2 (script_size (act_fields m)) l) m.events ≤ events_size m
 listed_bound m ok past legal =
     let exchanged = exchange (λ l. 1) m m.events past in
     let three = three_sum m past m.events in
-    let runs = bound_runs m (λ l. 3 + script_size m.fields l.script) ok past legal in
+    let runs = bound_runs m (λ l. 3 + script_size (act_fields m) l.script) ok past legal in
     let is = events_size-is m in
     omega arith
 
@@ -439,10 +439,10 @@ weighed m ok past legal =
     let latches = all_latches m past legal in
     let claims = all_claims m ok past legal in
     let finishes = all_finishes m past legal in
-    let paid = all_charged entries_price (script_size m.fields) m ok (covers_entries m) past legal in
-    let two = worth_two (script_size m.fields) 13 m past in
-    let made = few_started (worth 2 (script_size m.fields) 13 m) m past legal in
-    let split = all_made 2 (script_size m.fields) 13 m past in
+    let paid = all_charged entries_price (script_size (act_fields m)) m ok (covers_entries m) past legal in
+    let two = worth_two (script_size (act_fields m)) 13 m past in
+    let made = few_started (worth 2 (script_size (act_fields m)) 13 m) m past legal in
+    let split = all_made 2 (script_size (act_fields m)) 13 m past in
     let listed = listed_bound m ok past legal in
     let codes = code_sizes m ok past legal in
     let asks = queries_bound m ok past legal in

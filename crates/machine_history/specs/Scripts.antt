@@ -9,7 +9,7 @@ use Rattle.acpi_regs.specs.Actor.{same_actor}
 use Rattle.handler_script.specs.declared.act.Act.{Act}
 use Rattle.handler_script.specs.declared.op.Op.{Op}
 use Rattle.handler_script.specs.Plan.{Plan, End, next_act, plan, plan_after, query_plan}
-use Rattle.machine_desc.specs.Machine.{MachineData}
+use Rattle.machine_desc.specs.Machine.{MachineData, act_fields, glk}
 use Rattle.machine_history.specs.declared.parts.Job.{Job}
 use Rattle.machine_history.specs.declared.parts.Job.TheVariants as job
 use Rattle.machine_history.specs.Jobs.{jobs}
@@ -23,7 +23,7 @@ script_of m k = unwrap_or (slice_get m.firmware k) []
 
 -- what a firmware has before it at the start
 abbrev pub first_left : MachineData → ℕ → Plan
-first_left m k = plan m.fields (script_of m k)
+first_left m k = plan (act_fields m) (script_of m k)
 
 -- what an actor has before it at the start: a firmware its script, and every other actor nothing
 abbrev pub first_plan : MachineData → Actor → Plan
@@ -33,9 +33,9 @@ first_plan m _ = End
 -- what a job has to do; there is nothing where no such job was made
 abbrev pub job_plan : MachineData → Option Job → Plan
 job_plan m None = End
-job_plan m (Some (job.Event n)) = plan m.fields (event_script m n)
-job_plan m (Some job.Query) = query_plan
-job_plan m (Some (job.Code q)) = plan m.fields (code_script m q)
+job_plan m (Some (job.Event n)) = plan (act_fields m) (event_script m n)
+job_plan m (Some job.Query) = query_plan (glk m)
+job_plan m (Some (job.Code q)) = plan (act_fields m) (code_script m q)
 
 -- ---- what is left of it
 
