@@ -200,6 +200,13 @@ impl Machine {
         self.controller.as_ref()
     }
 
+    /// Whether there is a controller whose requests need the Global Lock (`_GLK`, ACPI 6.5, section 6.5.7).
+    pub fn glk(&self) -> bool
+        ensures { result ≡ glk self.now }
+    {
+        glk(self.version, &self.controller)
+    }
+
     /// The firmware's scripts, in the description's order.
     pub fn firmware(&self) -> &[Script]
         ensures { result.now ≡ self.now.firmware }

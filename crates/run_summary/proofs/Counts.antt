@@ -1,5 +1,5 @@
 -- What a complete history of a machine that is made is counted for is what its operations come to.
-use Rattle.std.proofs.Common.{ℕ, ◌+◌, ◌<◌, ◌≡◌, ◌⊎◌, inl, inr, true, false, List, [], ◌∷◌, length, reverse, slice_get, sum_by, Option, Some, None, refl, sym, ap, ◌∙◌, subst, arith}
+use Rattle.std.proofs.Common.{ℕ, ◌+◌, ◌<◌, ◌≡◌, ◌⊎◌, inl, inr, Bool, true, false, List, [], ◌∷◌, length, reverse, slice_get, sum_by, Option, Some, None, refl, sym, ap, ◌∙◌, subst, arith}
 use Rattle.acpi_regs.specs.declared.actor.Actor.{Actor}
 use Rattle.acpi_regs.specs.declared.actor.Actor.TheVariants as actor
 use Rattle.acpi_regs.specs.declared.entry.Deed.{Deed}
@@ -7,9 +7,9 @@ use Rattle.acpi_regs.specs.declared.entry.Deed.TheVariants as deed
 use Rattle.acpi_regs.specs.declared.entry.Entry.{Entry}
 use Rattle.handler_script.specs.declared.op.Op.{Op}
 use Rattle.handler_script.specs.Costs.{ops_cost}
-use Rattle.handler_script.specs.Plan.{plan}
+use Rattle.handler_script.specs.Plan.{plan, query_plan}
 use Rattle.machine_desc.specs.Kept.{IsMachine}
-use Rattle.machine_desc.specs.Machine.{MachineData}
+use Rattle.machine_desc.specs.Machine.{MachineData, act_fields, glk}
 use Rattle.machine_history.specs.declared.parts.Job.{Job}
 use Rattle.machine_history.specs.declared.parts.Job.TheVariants as job
 use Rattle.machine_history.specs.Complete.{Complete}
@@ -88,11 +88,11 @@ adds_by_firmware m past e ok = at e.actor e.deed ok
     at _ _ ok = inl refl
 
 abbrev pub cost_in : (number size : ℕ) → List Op → ℕ
-cost_in number size ops = ops_cost writes_price (made number size).fields false ops
+cost_in number size ops = ops_cost writes_price (act_fields (made number size)) false ops
 
 pub writes_count : (number size : ℕ) → ScriptsCount writes_price (made number size) (cost_in number size)
-writes_count number size k = each_script (λ ops. Counts writes_price (plan (made number size).fields ops) (cost_in number size ops)) number size refl
-    (λ k. script_counts writes_price (made number size).fields (maker.script_of number size k) uniform_writes (no_skips number size (maker.script_of number size k) (each_drawn number size k))) k
+writes_count number size k = each_script (λ ops. Counts writes_price (plan (act_fields (made number size)) ops) (cost_in number size ops)) number size refl
+    (λ k. script_counts writes_price (act_fields (made number size)) (maker.script_of number size k) uniform_writes (no_skips number size (maker.script_of number size k) (each_drawn number size k))) k
 
 pub all_adds : (number size : ℕ) (history : List Entry) → Complete (made number size) history → adds (reverse history) ≡ over_firmware one_add (made number size)
 all_adds number size history complete =
@@ -103,9 +103,9 @@ all_adds number size history complete =
 -- ---- pushes
 
 pub pushes_count : (number size : ℕ) (g : ℕ → ℕ) → ScriptsCount (pushes_price g) (made number size) (sum_of (push_of g))
-pushes_count number size g k = each_script (λ ops. Counts (pushes_price g) (plan (made number size).fields ops) (sum_of (push_of g) ops)) number size refl
-    (λ k. is (pushes_price g) (plan (made number size).fields (maker.script_of number size k)) _ _ (pushes_ops g (made number size).fields false (maker.script_of number size k))
-    (script_counts (pushes_price g) (made number size).fields (maker.script_of number size k) (uniform_pushes g) (no_skips number size (maker.script_of number size k) (each_drawn number size k)))) k
+pushes_count number size g k = each_script (λ ops. Counts (pushes_price g) (plan (act_fields (made number size)) ops) (sum_of (push_of g) ops)) number size refl
+    (λ k. is (pushes_price g) (plan (act_fields (made number size)) (maker.script_of number size k)) _ _ (pushes_ops g (act_fields (made number size)) false (maker.script_of number size k))
+    (script_counts (pushes_price g) (act_fields (made number size)) (maker.script_of number size k) (uniform_pushes g) (no_skips number size (maker.script_of number size k) (each_drawn number size k)))) k
 
 -- what the pushes of the scripts are worth
 pub all_pushed : (number size : ℕ) (g : ℕ → ℕ) (history : List Entry) → Complete (made number size) history
@@ -149,18 +149,22 @@ all_made number size history ok complete =
 abbrev pub notified_by : (number size q : ℕ) → ℕ
 notified_by number size q = sum_of notify_of (code_script (made number size) q)
 
+query_notifies : (needs : Bool) → Counts notifies_price (query_plan needs) 0
+query_notifies false = (0, refl, λ byte. refl)
+query_notifies true = (0, refl, λ byte. (0, refl, λ byte. (0, refl, λ byte. refl)))
+
 pub jobs_notify : (number size : ℕ) (a : Actor) → JobsCount notifies_price (made number size) a (code_price (notified_by number size))
 jobs_notify number size a works None = refl
-jobs_notify number size a works (Some (job.Event n)) = subst (λ ops. Counts notifies_price (plan (made number size).fields ops) 0) (sym (quiet number size n)) refl
-jobs_notify number size a works (Some job.Query) = (0, refl, λ byte. (0, refl, λ byte. (0, refl, λ byte. refl)))
+jobs_notify number size a works (Some (job.Event n)) = subst (λ ops. Counts notifies_price (plan (act_fields (made number size)) ops) 0) (sym (quiet number size n)) refl
+jobs_notify number size a works (Some job.Query) = query_notifies (glk (made number size))
 jobs_notify number size a works (Some (job.Code q)) =
-    is notifies_price (plan (made number size).fields (code_script (made number size) q)) _ _ (notifies_ops (made number size).fields false (code_script (made number size) q))
-    (script_counts notifies_price (made number size).fields (code_script (made number size) q) uniform_notifies (handler_skips number size q))
+    is notifies_price (plan (act_fields (made number size)) (code_script (made number size) q)) _ _ (notifies_ops (act_fields (made number size)) false (code_script (made number size) q))
+    (script_counts notifies_price (act_fields (made number size)) (code_script (made number size) q) uniform_notifies (handler_skips number size q))
 
 pub firmware_notifies : (number size : ℕ) → ScriptsCount notifies_price (made number size) (sum_of notify_of)
-firmware_notifies number size k = each_script (λ ops. Counts notifies_price (plan (made number size).fields ops) (sum_of notify_of ops)) number size refl
-    (λ k. is notifies_price (plan (made number size).fields (maker.script_of number size k)) _ _ (notifies_ops (made number size).fields false (maker.script_of number size k))
-    (script_counts notifies_price (made number size).fields (maker.script_of number size k) uniform_notifies (no_skips number size (maker.script_of number size k) (each_drawn number size k)))) k
+firmware_notifies number size k = each_script (λ ops. Counts notifies_price (plan (act_fields (made number size)) ops) (sum_of notify_of ops)) number size refl
+    (λ k. is notifies_price (plan (act_fields (made number size)) (maker.script_of number size k)) _ _ (notifies_ops (act_fields (made number size)) false (maker.script_of number size k))
+    (script_counts notifies_price (act_fields (made number size)) (maker.script_of number size k) uniform_notifies (no_skips number size (maker.script_of number size k) (each_drawn number size k)))) k
 
 none : (firmware : List (List Op)) → sum_of (λ ops. 0) firmware ≡ 0
 none [] = refl

@@ -12,6 +12,7 @@ use Rattle.handler_script.specs.Left.{held_after}
 use Rattle.machine_desc.specs.declared.machine.ListedEvent.{ListedEvent}
 use Rattle.machine_desc.specs.declared.machine.Query.{Query}
 use Rattle.machine_desc.specs.Kept.{queries_in}
+use Rattle.machine_desc.specs.Machine.{act_fields, act_fields_of}
 use Rattle.machine_history.specs.Machine.{code_script, event_script, query_in, script_in}
 use Rattle.machine_history.specs.Scripts as history
 use Rattle.machine_history.proofs.ScriptPrices.{push_of}
@@ -36,7 +37,7 @@ each_op P adds pushes number size k = each_row P (16 * size) (λ j. op_at number
 
 -- a script of the machine's firmware is one of the four, or there is none of its number
 pub each_script : (P : List Op → Type 0) (number size : ℕ) → P [] → ((k : ℕ) → P (script_of number size k)) → (k : ℕ) → P (history.script_of (made number size) k)
-unfolding made each_of
+unfolding made each_of act_fields_of
 each_script P number size none each zero = each 0
 each_script P number size none each (suc zero) = each 1
 each_script P number size none each (suc (suc zero)) = each 2
@@ -49,13 +50,13 @@ each_script P number size none each (suc (suc (suc (suc k)))) = none
 pub record IsDrawn (number size : ℕ) (o : Op) : Type 0 where
   pub no_skip : is_no_skip o ≡ true
   pub held : held_after o false ≡ false
-  pub writes : op_cost writes_price (made number size).fields false o ≡ one_add o
+  pub writes : op_cost writes_price (act_fields (made number size)) false o ≡ one_add o
   pub notifies : notify_of o ≡ 0
   pub pushes : (g : ℕ → ℕ) → ((q : ℕ) → q < 8 → g (1 + q) ≡ 1) → push_of g o ≡ one_push o
 
-add_writes : (number size f : ℕ) → f < 16 → op_cost writes_price (made number size).fields false (op.Add f 1) ≡ 1
-unfolding made each_of
-add_writes number size f less = eqb-true (op_cost writes_price (made number size).fields false (op.Add f 1)) 1 (tested (λ k. op_cost writes_price (made number size).fields false (op.Add k 1) == 1) 0 16 f f refl less (omega arith))
+add_writes : (number size f : ℕ) → f < 16 → op_cost writes_price (act_fields (made number size)) false (op.Add f 1) ≡ 1
+unfolding made each_of act_fields_of
+add_writes number size f less = eqb-true (op_cost writes_price (act_fields (made number size)) false (op.Add f 1)) 1 (tested (λ k. op_cost writes_price (act_fields (made number size)) false (op.Add k 1) == 1) 0 16 f f refl less (omega arith))
 
 pub each_drawn : (number size k : ℕ) → Each (IsDrawn number size) (script_of number size k)
 each_drawn number size k = each_op (IsDrawn number size)
@@ -69,12 +70,12 @@ pub no_skips : (number size : ℕ) (ops : List Op) → Each (IsDrawn number size
 no_skips number size [] each = refl
 no_skips number size (o ∷ ops) each = and_from _ _ each.0.no_skip (no_skips number size ops each.1)
 
-pub writes_sum : (number size : ℕ) (ops : List Op) → Each (IsDrawn number size) ops → ops_cost writes_price (made number size).fields false ops ≡ sum_of one_add ops
+pub writes_sum : (number size : ℕ) (ops : List Op) → Each (IsDrawn number size) ops → ops_cost writes_price (act_fields (made number size)) false ops ≡ sum_of one_add ops
 writes_sum number size [] each = refl
 writes_sum number size (o ∷ ops) each =
     let one = each.0.writes in
     let rest = writes_sum number size ops each.1 in
-    let freed = ap (λ held. ops_cost writes_price (made number size).fields held ops) each.0.held in
+    let freed = ap (λ held. ops_cost writes_price (act_fields (made number size)) held ops) each.0.held in
     omega arith
 
 pub no_notifies : (number size : ℕ) (ops : List Op) → Each (IsDrawn number size) ops → sum_of notify_of ops ≡ 0
@@ -88,7 +89,7 @@ pushes_sum number size g each_one (o ∷ ops) each = let one = each.0.pushes g e
 -- ---- sums over the four scripts
 
 pub four-same : (number size : ℕ) (f g : List Op → ℕ) → ((k : ℕ) → f (script_of number size k) ≡ g (script_of number size k)) → sum_of f (made number size).firmware ≡ sum_of g (made number size).firmware
-unfolding made each_of
+unfolding made each_of act_fields_of
 four-same number size f g same =
     let first = same 0 in
     let second = same 1 in
@@ -108,7 +109,7 @@ quiet_in (l ∷ ls) n each = at (same_event l.listed.event n) (quiet_in ls n eac
 
 -- no event has anything to do
 pub quiet : (number size : ℕ) (n : Event) → event_script (made number size) n ≡ []
-unfolding made each_of
+unfolding made each_of act_fields_of
 quiet number size n = quiet_in (made number size).events n (refl, (refl, (refl, (refl, (refl, (refl, (refl, (refl, tt))))))))
 
 handler_in : (P : Op → Bool) (qs : List Query) (q : ℕ) → Each (λ (h : Query). list_all P h.script ≡ true) qs → list_all P (query_in qs q) ≡ true
@@ -129,7 +130,7 @@ handler_passes : (P : Op → Bool) → Passes P → (k : ℕ) → list_all P (ma
 handler_passes P passes k = and_from _ _ (passes.adds k 1) (and_from _ _ (passes.notifies k 128) refl)
 
 pub codes_pass : (P : Op → Bool) → Passes P → (number size q : ℕ) → list_all P (code_script (made number size) q) ≡ true
-unfolding made each_of
+unfolding made each_of act_fields_of
 codes_pass P passes number size q = handler_in P (queries_in (made number size)) q
     (handler_passes P passes 1, (handler_passes P passes 2, (handler_passes P passes 3, (handler_passes P passes 4, (handler_passes P passes 5, (handler_passes P passes 6, (handler_passes P passes 7, (handler_passes P passes 8, tt))))))))
 
@@ -156,7 +157,7 @@ handler_skips number size q = (no_skip_anywhere number size).codes q
 
 -- the handler of one of the eight codes
 pub handler_is : (number size q : ℕ) → q < 8 → code_script (made number size) (1 + q) ≡ maker.code_script (1 + q)
-unfolding made each_of
+unfolding made each_of act_fields_of
 handler_is number size zero less = refl
 handler_is number size (suc zero) less = refl
 handler_is number size (suc (suc zero)) less = refl

@@ -9,7 +9,7 @@ use Rattle.acpi_regs.specs.declared.entry.Entry.{Entry}
 use Rattle.handler_script.specs.declared.act.Act.{Act}
 use Rattle.handler_script.specs.declared.op.Op.{Op}
 use Rattle.handler_script.specs.Plan.{End, plan}
-use Rattle.machine_desc.specs.Machine.{MachineData}
+use Rattle.machine_desc.specs.Machine.{MachineData, act_fields}
 use Rattle.machine_history.specs.declared.parts.Job.{Job}
 use Rattle.machine_history.specs.Complete.{Complete}
 use Rattle.machine_history.specs.Legal.{Allowed, LegalPast, is_worker, runs_scripts}
@@ -50,7 +50,7 @@ all_ended m history complete = record {
 
 -- what each script of the firmware costs
 abbrev pub ScriptsCount : (Act → ℕ) → MachineData → (List Op → ℕ) → Type 0
-ScriptsCount f m c = (k : ℕ) → Counts f (plan m.fields (script_of m k)) (c (script_of m k))
+ScriptsCount f m c = (k : ℕ) → Counts f (plan (act_fields m) (script_of m k)) (c (script_of m k))
 
 -- a count that is the price of each act of the firmware
 abbrev pub IsPriceOf : (Act → ℕ) → Count → Type 0
