@@ -15,4 +15,5 @@ pub mod Stalls
 pub mod Starting
 pub mod Suits
 pub mod Unsaying
+pub mod Upgrade
 pub mod Steps

@@ -6,3 +6,4 @@ pub mod Rounds
 pub mod Said
 pub mod Sound
 pub mod Stuck
+pub mod Upgrade

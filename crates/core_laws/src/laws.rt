@@ -28,6 +28,7 @@ ghost use Rattle.core_laws.specs.Rounds.{to_come};
 ghost use Rattle.core_laws.specs.Said.{SoundAsSaid, holds_word};
 ghost use Rattle.core_laws.specs.Sound.{Sound};
 ghost use Rattle.core_laws.specs.Stuck.{IsStuck};
+ghost use Rattle.core_laws.specs.Upgrade.{SameComplete, SameGives, SameLegal, SamePlayed, SameRefusal, SameStuck, SameWeight, UpgradesOnce};
 
 /// The first core of a machine is sound, and each event that may happen leads from a sound core to a sound one. So does every
 /// list of events, of any actors in any order. A core is sound exactly where the sentences on its history, its phases, its lock
@@ -102,4 +103,18 @@ pub fn law_rounds()
 /// adds, as often as such a job was started. So no order of the actors' steps changes it.
 pub fn law_adds()
     ensures { (m : MachineData) (history : List Entry) → IsMachine m → EveryOp is_no_skip m → Complete m history → SumsAdds m history }
+{}
+
+/// The upgrade of a machine to version 2 changes no history and no weight: the same entries are allowed, an actor's step does the
+/// same, and what is legal, complete or played for a machine is so for its upgrade, and the other way round. The same events are
+/// parked at the end, so the log of a complete history differs in its machine line alone. A machine of version 2 is its own upgrade.
+pub fn law_upgrade()
+    ensures refusal { SameRefusal }
+    ensures gives { SameGives }
+    ensures legal { SameLegal }
+    ensures complete { SameComplete }
+    ensures played { SamePlayed }
+    ensures stuck { SameStuck }
+    ensures weight { SameWeight }
+    ensures once { UpgradesOnce }
 {}
