@@ -40,7 +40,7 @@ use Rattle.machine_reader.specs.Canonical.{actor_json, blocks_json, controller_j
 use Rattle.machine_reader.specs.Parts.{controller_part, event_part, field_part, parts_of, query_part, region_part}
 use Rattle.machine_reader.specs.Ranges.{EventFits, OpFits, RegionFits, FieldFits}
 use Rattle.machine_reader.specs.Reading.{Reading, ◌>>=◌, each_from, list_of, under}
-use Rattle.machine_reader.proofs.Walk.{then_rest}
+use Rattle.machine_reader.proofs.Elements.{then_rest}
 use Rattle.machine_reader.specs.Shape.{actor_shape, blocks_shape, byte_shape, code, controller_shape, event, event_shape, field_shape, half_shape, kind_shape, listed_event_shape, listed_shape, number_up_to, op_shape, query_code_shape, query_shape, region_shape, script_shape, shape, truth_shape, update_shape, version_shape, word_shape}
 
 -- ---- lists

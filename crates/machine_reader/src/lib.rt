@@ -7,6 +7,7 @@
 //! straight into its bytes. [`laws`] has that each canonical text is read as its machine, and that no two machines have one.
 #![tactic(auto)]
 
+mod apart;
 mod bytes;
 mod fault;
 pub mod laws;
@@ -18,12 +19,13 @@ mod parts;
 mod path;
 mod ranges;
 mod read;
-mod values;
+pub mod walk;
 mod whole;
 mod write;
 mod written;
 
+pub use apart::machine_parts;
 pub use fault::ReaderFault;
 pub use path::PathText;
-pub use read::read_machine;
+pub use read::{machine_at, read_machine, read_shaped};
 pub use write::write_machine;

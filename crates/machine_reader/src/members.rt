@@ -16,7 +16,7 @@ use machine_desc::{ControllerDesc, Items, ListedEvent, Machine, Query};
 use std::alloc::AllocError;
 
 /// The bytes without the zeros at their end.
-fn without_zeros(cells: &[u8]) -> &[u8]
+pub fn without_zeros(cells: &[u8]) -> &[u8]
     ensures { result.now ≡ without_zeros cells.now }
 {
     let mut bytes = cells;

@@ -7,7 +7,7 @@ ghost use Rattle.machine_reader.specs.Shape as shape;
 
 use crate::names::{ListedName, QueryCode};
 use crate::path::ShapeFault;
-use crate::values::{Shaped, has_names, member};
+use crate::walk::{Shaped, has_names, member};
 use machine_desc::{ControllerPart, EventPart, FieldPart, MachineParts, QueryPart, RegionPart};
 use serde_json::Value;
 use std::alloc::Global;
@@ -255,13 +255,18 @@ const NAMES: [&str; 10] = [
     "schedule",
 ];
 
-/// The parts of a description.
-pub fn parts_in(alloc: Global, value: &Value) -> Result<MachineParts, ShapeFault>
-    ensures reads { Reads (λ x. x) (shape.shape (view value.now)) result }
-    ensures given { IfOk result IsGiven }
-{
-    if !has_names(&NAMES, value) {
-        return Err(ShapeFault::here(alloc));
+impl Shaped for MachineParts {
+    ghost use Rattle.machine_desc.specs.Given.{IsGiven};
+    ghost use Rattle.machine_reader.specs.Shape.{shape};
+
+    ghost shape = { shape };
+
+    ghost Given = { IsGiven };
+
+    fn read(alloc: Global, value: &Value) -> Result<Self, ShapeFault> {
+        if !has_names(&NAMES, value) {
+            return Err(ShapeFault::here(alloc));
+        }
+        description_members(alloc, value)
     }
-    description_members(alloc, value)
 }

@@ -8,7 +8,7 @@ use crate::names::{ListedName, QueryCode, actor_named, listed_named, query_named
 use crate::ops::{byte, event, half, number_up_to, op_in};
 use crate::parts::Version;
 use crate::path::ShapeFault;
-use crate::values::{Shaped, whole};
+use crate::walk::{Shaped, whole};
 use acpi_regs::{Actor, Event};
 use field_units::{RegionKind, UpdateRule};
 use handler_script::Op;
