@@ -43,6 +43,6 @@ abbrev pub is_controller : RegionKind → Bool
 is_controller kind.Memory = false
 is_controller kind.Controller = true
 
--- an access of the field needs the Global Lock: its rule says so, or it lies in the controller's region
+-- an access of the field needs the Global Lock: its rule says so
 abbrev pub needs_lock : Field → Bool
-needs_lock field = is_lock field.lock || is_controller field.kind
+needs_lock field = is_lock field.lock

@@ -126,11 +126,18 @@ impl FieldUnit {
         self.update
     }
 
-    /// Whether an access needs the Global Lock: by the field's rule, or since it lies in the controller's region.
+    /// Whether an access needs the Global Lock, by the field's lock rule alone.
     pub fn needs_lock(&self) -> bool
         ensures { result ≡ needs_lock self.now }
     {
-        matches!(self.lock, LockRule::Lock) || matches!(self.kind, RegionKind::Controller)
+        matches!(self.lock, LockRule::Lock)
+    }
+
+    /// The same field under another lock rule.
+    pub fn with_lock(&self, lock: LockRule) -> FieldUnit
+        ensures { result ≡ record self.now { lock = lock } }
+    {
+        FieldUnit { lock, ..*self }
     }
 
     /// A field lies in its region, and so do its bytes. The call costs nothing: it says so to a caller's proof.

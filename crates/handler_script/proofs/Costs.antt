@@ -84,15 +84,15 @@ closing price held field = cond (bursts field) (price (act.Ask request.Bd)) 0 + 
 
 closes : (price : Act → ℕ) (field : Field) (held : Bool) (p : Plan) (n : ℕ) → Costs price p n → Costs price (closed field held p) (closing price held field + n)
 closes price field held p n h =
-    more price _ _ _ (omega arith) (wanted price (bursts field) true (act.Ask request.Bd) (unlocked field held p) _ (wanted price (takes_lock field held) false act.Unlock p n h))
+    more price _ _ _ (omega arith) (wanted price (bursts field) (access_needs field held) (act.Ask request.Bd) (unlocked field held p) _ (wanted price (takes_lock field held) false act.Unlock p n h))
 
 -- the lock and burst mode round the bytes of a field
 framed : (price : Act → ℕ) (field : Field) (held : Bool) (p : Plan) (bytes n : ℕ) → Costs price p (bytes + (closing price held field + n))
-    → Costs price (where_wanted (takes_lock field held) false act.Lock (where_wanted (bursts field) true (act.Ask request.Be) p)) ((lock_cost price held field + burst_cost price field + bytes) + n)
+    → Costs price (where_wanted (takes_lock field held) false act.Lock (where_wanted (bursts field) (access_needs field held) (act.Ask request.Be) p)) ((lock_cost price held field + burst_cost price field + bytes) + n)
 framed price field held p bytes n h =
     more price _ _ _
     (let lock = both (takes_lock field held) (price act.Lock) (price act.Unlock) in let burst = both (bursts field) (price (act.Ask request.Be)) (price (act.Ask request.Bd)) in omega arith)
-    (wanted price (takes_lock field held) false act.Lock _ _ (wanted price (bursts field) true (act.Ask request.Be) p _ h))
+    (wanted price (takes_lock field held) false act.Lock _ _ (wanted price (bursts field) (access_needs field held) (act.Ask request.Be) p _ h))
 
 on_read : (price : Act → ℕ) → IsUniform price → (found : Option Field) (f : ℕ) (held : Bool) (last n : ℕ) (next : ℕ → Plan) → ((v : ℕ) → Costs price (next v) n)
     → Costs price (on_field found (op.Read f) held last next) (field_cost price (op.Read f) held found + n)

@@ -40,14 +40,14 @@ takes n held e = (and_parts n held e).0
 
 closes : (P : Bool → Act → Bool) (field : Field) (held : Bool) (p : Plan) → IsTrueOn P field → Each P p → Each P (closed field held p)
 closes P field held p h rest =
-    wanted P (bursts field) true (act.Ask request.Bd) (unlocked field held p) (λ b. (h.burst b).1)
+    wanted P (bursts field) (access_needs field held) (act.Ask request.Bd) (unlocked field held p) (λ b. (h.burst held b).1)
     (wanted P (takes_lock field held) false act.Unlock p (λ t. (h.lock (takes _ _ t)).1) rest)
 
 framed : (P : Bool → Act → Bool) (field : Field) (held : Bool) (p : Plan) → IsTrueOn P field → Each P p
-    → Each P (where_wanted (takes_lock field held) false act.Lock (where_wanted (bursts field) true (act.Ask request.Be) p))
+    → Each P (where_wanted (takes_lock field held) false act.Lock (where_wanted (bursts field) (access_needs field held) (act.Ask request.Be) p))
 framed P field held p h rest =
     wanted P (takes_lock field held) false act.Lock _ (λ t. (h.lock (takes _ _ t)).0)
-    (wanted P (bursts field) true (act.Ask request.Be) p (λ b. (h.burst b).0) rest)
+    (wanted P (bursts field) (access_needs field held) (act.Ask request.Be) p (λ b. (h.burst held b).0) rest)
 
 -- it holds on the field that is found
 abbrev OnFound : (Bool → Act → Bool) → Option Field → Type 0

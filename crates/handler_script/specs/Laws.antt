@@ -1,5 +1,5 @@
 -- What the plan of a script comes to, in sentences.
-use Rattle.std.specs.Prelude.{◌≡◌, ℕ, true, false, List, [], ◌∷◌, ◌++◌, Some, None, if◌then◌else◌}
+use Rattle.std.specs.Prelude.{◌≡◌, ℕ, Bool, true, false, List, [], ◌∷◌, ◌++◌, Some, None, if◌then◌else◌}
 use Rattle.field_units.specs.Field.{Field}
 use Rattle.handler_script.specs.declared.act.Act.{Act}
 use Rattle.handler_script.specs.declared.op.Op.{Op}
@@ -31,7 +31,7 @@ Ends = (p : Plan) (answers : List ℕ) → next_act p ≡ None → acts_of p ans
 abbrev pub LocksInTurn : Type 0
 LocksInTurn = (fields : List Field) (ops : List Op) → Accepted fields ops → Locked false (plan fields ops)
 
--- in an accepted script the acts that need the lock are marked: each request to the controller, each access to a cell that only
--- fields which need the lock have, and each access while the lock is held; and no other act
+-- In an accepted script the acts that need the lock are marked: each access to a cell, and each request, that only fields which need
+-- the lock make, and each access and request while the lock is held. No other act is.
 abbrev pub MarksNeeds : Type 0
-MarksNeeds = (fields : List Field) (ops : List Op) → Accepted fields ops → Marked fields false (plan fields ops)
+MarksNeeds = (glk : Bool) (fields : List Field) (ops : List Op) → Accepted fields ops → Marked glk fields false (plan fields ops)

@@ -58,7 +58,7 @@ abbrev pub unlocked : Field → Bool → Plan → Plan
 unlocked field held next = where_wanted (takes_lock field held) false act.Unlock next
 
 abbrev pub closed : Field → Bool → Plan → Plan
-closed field held next = where_wanted (bursts field) true (act.Ask request.Bd) (unlocked field held next)
+closed field held next = where_wanted (bursts field) (access_needs field held) (act.Ask request.Bd) (unlocked field held next)
 
 -- the bytes of an op on a field; it goes on with the value that the field's latest read gave
 abbrev pub bytes_of : Op → Field → Bool → ℕ → (ℕ → Plan) → Plan
@@ -73,7 +73,7 @@ bytes_of _ field held last next = next last
 
 -- an op on a field, in burst mode and under the lock where they are wanted
 abbrev pub opened : Op → Field → Bool → ℕ → (ℕ → Plan) → Plan
-opened o field held last next = where_wanted (bursts field) true (act.Ask request.Be) (bytes_of o field held last next)
+opened o field held last next = where_wanted (bursts field) (access_needs field held) (act.Ask request.Be) (bytes_of o field held last next)
 
 abbrev pub on_field : Option Field → Op → Bool → ℕ → (ℕ → Plan) → Plan
 on_field None o held last next = next last
@@ -106,9 +106,11 @@ plan_from fields (o ∷ ops) held last zero = plan_op fields o held last (λ hel
 abbrev pub plan : List Field → List Op → Plan
 plan fields ops = plan_from fields ops false 0 0
 
--- a query job asks the controller for the first outstanding code, under the lock (ACPI 6.5, section 12.3.5)
-abbrev pub query_plan : Plan
-query_plan = Do false act.Lock (λ _. Do true (act.Ask request.Qr) (λ _. Do false act.Unlock (λ _. End)))
+-- A query job asks the controller for the first outstanding code (ACPI 6.5, section 12.3.5): under the lock if the controller needs it
+-- (`_GLK`, section 6.5.7), and without it otherwise.
+abbrev pub query_plan : Bool → Plan
+query_plan false = Do false (act.Ask request.Qr) (λ _. End)
+query_plan true = Do false act.Lock (λ _. Do true (act.Ask request.Qr) (λ _. Do false act.Unlock (λ _. End)))
 
 -- a code without a handler
 abbrev pub empty_plan : Plan

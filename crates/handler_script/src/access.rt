@@ -1,13 +1,13 @@
 //! The acts on the bytes of a field.
 ghost use Rattle.std.specs.Prelude.{◌≡◌, ◌<◌, ◌%◌, ◌^◌, true};
 ghost use Rattle.field_units.specs.Bits.{byte_count};
-ghost use Rattle.field_units.specs.Field.{is_controller, needs_lock};
+ghost use Rattle.field_units.specs.Field.{is_controller};
 ghost use Rattle.handler_script.specs.Left.{written};
 ghost use Rattle.handler_script.specs.Parts.{bursts, cell_of, read_act, reads_first, takes_lock, write_act};
 
 use crate::{Act, Op};
 use acpi_regs::{Cell, Request};
-use field_units::{FieldUnit, LockRule, RegionKind, UpdateRule};
+use field_units::{FieldUnit, RegionKind, UpdateRule};
 
 fn is_controllers(field: &FieldUnit) -> bool
     ensures { result ≡ is_controller field.now.kind }
@@ -15,16 +15,10 @@ fn is_controllers(field: &FieldUnit) -> bool
     matches!(field.kind(), RegionKind::Controller)
 }
 
-fn needs_lock(field: &FieldUnit) -> bool
-    ensures { result ≡ needs_lock field.now }
-{
-    matches!(field.lock(), LockRule::Lock) || is_controllers(field)
-}
-
 pub(crate) fn takes_lock(field: &FieldUnit, held: bool) -> bool
     ensures { result ≡ takes_lock field.now held }
 {
-    needs_lock(field) && !held
+    field.needs_lock() && !held
 }
 
 pub(crate) fn bursts(field: &FieldUnit) -> bool

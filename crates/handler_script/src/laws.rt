@@ -1,5 +1,5 @@
 //! What the plan of a script comes to: facts for the proofs of the crates above, which cost nothing to call.
-ghost use Rattle.std.specs.Prelude.{List, false};
+ghost use Rattle.std.specs.Prelude.{Bool, List, false};
 ghost use Rattle.acpi_regs.specs.Comparisons.{IsExact};
 ghost use Rattle.field_units.specs.Field.{Field};
 ghost use Rattle.handler_script.specs.Costs.{CostsItsOps};
@@ -27,16 +27,16 @@ pub fn law_acts()
 /// given back in turn, and it is free at the end.
 pub fn law_locked()
     ensures script { LocksInTurn }
-    ensures query { Locked false query_plan }
+    ensures query { (glk : Bool) → Locked false (query_plan glk) }
     ensures empty { Locked false empty_plan }
 {}
 
-/// In an accepted script, and in a query job, each request to the controller is marked as an act that needs the lock, and so
-/// is each access to a cell that only fields which need the lock have, and each access while the lock is held. No other
-/// act is.
+/// In an accepted script each access to a cell, and each request to the controller, that only fields which need the lock make is
+/// marked as an act that needs the lock, and so is each while the lock is held. A query is marked exactly if its controller
+/// needs the lock. No other act is marked.
 pub fn law_marked()
     ensures script { MarksNeeds }
-    ensures query { (fields : List Field) → Marked fields false query_plan }
+    ensures query { (glk : Bool) (fields : List Field) → Marked glk fields false (query_plan glk) }
 {}
 
 /// What is true on every field, and of the act of every operation that names none, is true of each act of a script.

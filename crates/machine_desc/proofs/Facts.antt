@@ -24,7 +24,7 @@ use Rattle.machine_desc.specs.declared.parts.RegionPart.{RegionPart}
 use Rattle.machine_desc.specs.Faults.{breaks}
 use Rattle.machine_desc.specs.Given.{HasQueries, IsGiven, IsQueryPart}
 use Rattle.machine_desc.specs.Machine.{field_of, kind_of, len_of, listed_part}
-use Rattle.machine_desc.specs.Rules.{blocks, controller_fault, counts, device_rule, devices_fault, event_fault, event_of, event_rows, events_fault, field_rows, field_rule, fields_fault, firmware_fault, firmware_rule, first_fault, forbids, gpe_fault, gpe_rows, is_controllers, is_event_of, is_in_no_block, is_listed, machine_rows, own_event_rule, queries_fault, queries_of, query_fault, query_rows, region_fault, region_rows, regions_fault, rule_of, schedule_fault, script_rows, script_rule, step_rule, workers_fault}
+use Rattle.machine_desc.specs.Rules.{blocks, controller_fault, counts, device_rule, devices_fault, event_fault, event_of, event_rows, events_fault, field_rows, field_rule, fields_fault, firmware_fault, firmware_rule, first_fault, forbids, gpe_fault, gpe_rows, is_controllers, is_event_of, is_in_no_block, is_listed, machine_rows, most_events, most_gpes, own_event_rule, queries_fault, queries_of, query_fault, query_rows, region_fault, region_rows, regions_fault, rule_of, schedule_fault, script_rows, script_rule, step_rule, workers_fault}
 use Rattle.machine_desc.specs.Sound.{AreSound, AreSoundQueries, IsFieldIn, IsRegionPart, IsSoundEvent, IsSoundQuery, IsSoundScript}
 use Rattle.machine_desc.proofs.EachItem.{PartKept, all_each, each_all, few, no_spot, none, part_kept, unbroken, unmapped}
 
@@ -35,12 +35,12 @@ forbidden p = forbids (map listed_part p.events) (event_of p.controller)
 
 pub record RulesKept (p : MachineParts) : Type 0 where
   pub geometry : bad_field (blocks p) ≡ None
-  pub few_gpes : end_of (blocks p) ≤ 128
+  pub few_gpes : end_of (blocks p) ≤ most_gpes p.version
   pub some_workers : 1 ≤ p.workers
   pub few_workers : p.workers ≤ 4
   pub regions : PartKept 16 (region_fault (is_some p.controller)) p.regions
   pub fields : PartKept 256 (field_rule p.regions) p.fields
-  pub events : PartKept 132 (event_fault (blocks p) (event_of p.controller) (forbidden p) (length p.fields)) p.events
+  pub events : PartKept (most_events p.version) (event_fault (blocks p) (event_of p.controller) (forbidden p) (length p.fields)) p.events
   pub own : own_event_rule (blocks p) (event_of p.controller) ≡ None
   pub queries : PartKept 255 (query_fault (forbidden p) (length p.fields)) (queries_of p.controller)
   pub firmware : PartKept 8 (firmware_rule (forbidden p) (length p.fields)) p.firmware
@@ -55,11 +55,11 @@ absent : {A : Type 0} (o : Option A) → is_some o ≡ false → o ≡ None
 absent None e = refl
 absent (Some x) e = cc
 
-gpe_kept : (b : Blocks) → gpe_fault b ≡ None → (bad_field b ≡ None) × (end_of b ≤ 128)
+gpe_kept : (version : ℕ) (b : Blocks) → gpe_fault version b ≡ None → (bad_field b ≡ None) × (end_of b ≤ most_gpes version)
 unfolding gpe_fault
-gpe_kept b e =
-    let rows = none (gpe_rows b) (no_spot part.Gpe 0 _ e) in
-    (absent (bad_field b) (unbroken (is_some (bad_field b)) rule.BadGeometry 0 rows.0), few 128 (end_of b) rule.TooManyEvents 0 rows.1.0)
+gpe_kept version b e =
+    let rows = none (gpe_rows version b) (no_spot part.Gpe 0 _ e) in
+    (absent (bad_field b) (unbroken (is_some (bad_field b)) rule.BadGeometry 0 rows.0), few (most_gpes version) (end_of b) rule.TooManyEvents 0 rows.1.0)
 
 workers_kept : (workers : ℕ) → workers_fault workers ≡ None → (1 ≤ workers) × (workers ≤ 4)
 unfolding workers_fault
@@ -71,7 +71,7 @@ pub kept : (p : MachineParts) → first_fault p ≡ None → RulesKept p
 unfolding first_fault regions_fault fields_fault events_fault controller_fault queries_fault firmware_fault devices_fault schedule_fault
 kept p e =
     let rows = none (machine_rows p) e in
-    let gpe = gpe_kept (blocks p) rows.0 in
+    let gpe = gpe_kept p.version (blocks p) rows.0 in
     let workers = workers_kept p.workers rows.1.0 in
     record {
       geometry = gpe.0;
@@ -80,7 +80,7 @@ kept p e =
       few_workers = workers.1;
       regions = part_kept part.Region 16 (region_fault (is_some p.controller)) p.regions rows.1.1.0;
       fields = part_kept part.Field 256 (field_rule p.regions) p.fields rows.1.1.1.0;
-      events = part_kept part.Event 132 (event_fault (blocks p) (event_of p.controller) (forbidden p) (length p.fields)) p.events rows.1.1.1.1.0;
+      events = part_kept part.Event (most_events p.version) (event_fault (blocks p) (event_of p.controller) (forbidden p) (length p.fields)) p.events rows.1.1.1.1.0;
       own = no_spot part.Controller 0 (own_event_rule (blocks p) (event_of p.controller)) rows.1.1.1.1.1.0;
       queries = part_kept part.Query 255 (query_fault (forbidden p) (length p.fields)) (queries_of p.controller) rows.1.1.1.1.1.1.0;
       firmware = part_kept part.Firmware 8 (firmware_rule (forbidden p) (length p.fields)) p.firmware rows.1.1.1.1.1.1.1.0;

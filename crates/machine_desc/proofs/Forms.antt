@@ -1,5 +1,5 @@
 -- The tests of the form of a description say what they test.
-use Rattle.std.proofs.Common.{◌≡◌, ◌↔◌, IsTrue, zero, suc, refl, sym, subst, Bool, true, false, ◌&&◌, not, nat_lt, ◌==◌, All, List, [], ◌∷◌, Option, Some, None, eqb-true, eq-eqb, ◌∙◌}
+use Rattle.std.proofs.Common.{ℕ, ◌≡◌, ◌↔◌, ◌⊎◌, inl, inr, ◌||◌, IsTrue, zero, suc, refl, sym, subst, Bool, true, false, ◌&&◌, not, nat_lt, ◌==◌, All, List, [], ◌∷◌, Option, Some, None, eqb-true, eq-eqb, ◌∙◌}
 use Rattle.std.specs.List.{list_all}
 use Rattle.std.proofs.lemmas.Bool.{and_parts, ltb-true, lt-ltb}
 use Rattle.acpi_regs.specs.declared.event.Event.{Event}
@@ -11,7 +11,7 @@ use Rattle.machine_desc.specs.declared.parts.ControllerPart.{ControllerPart}
 use Rattle.machine_desc.specs.declared.parts.EventPart.{EventPart}
 use Rattle.machine_desc.specs.declared.parts.MachineParts.{MachineParts}
 use Rattle.machine_desc.specs.declared.parts.QueryPart.{QueryPart}
-use Rattle.machine_desc.specs.Given.{HasCode, HasLevel, HasQueries, HaveCodes, IsEventPart, IsGiven, IsQueryPart, has_code, has_level, has_queries, have_codes, is_event_part, is_given, is_query_part}
+use Rattle.machine_desc.specs.Given.{HasCode, HasGlk, HasLevel, HasQueries, HaveCodes, IsEventPart, IsGiven, IsQueryPart, IsVersion, has_code, has_glk, has_level, has_queries, have_codes, is_event_part, is_given, is_query_part, is_version}
 use Rattle.machine_desc.proofs.EachItem.{Each, all_each, each_all}
 
 passing : {A : Type 0} (test : A → Bool) (xs : List A) → list_all test xs ≡ true → Each (λ x. test x ≡ true) xs
@@ -92,14 +92,39 @@ of_queries : (c : Option ControllerPart) → HasQueries c → has_queries c ≡ 
 of_queries None h = refl
 of_queries (Some c) h = of_all IsQueryPart is_query_part of_query c.queries h
 
+version_of : (version : ℕ) → is_version version ≡ true → IsVersion version
+version_of version e = at (version == 1) refl e
+  where
+    at : (b : Bool) → (version == 1) ≡ b → (b || (version == 2)) ≡ true → IsVersion version
+    at true one e = inl (eqb-true version 1 one)
+    at false one e = inr (eqb-true version 2 e)
+
+of_version : (version : ℕ) → IsVersion version → is_version version ≡ true
+of_version version (inl one) = rw one refl
+of_version version (inr two) = rw two refl
+
+glk_of : (version : ℕ) (c : Option ControllerPart) → has_glk version c ≡ true → HasGlk version c
+glk_of version None e = tt
+glk_of version (Some c) e = λ one. subst (λ v. (not (v == 1) || c.glk) ≡ true) one e
+
+of_glk : (version : ℕ) (c : Option ControllerPart) → HasGlk version c → has_glk version c ≡ true
+of_glk version None h = refl
+of_glk version (Some c) h = at (version == 1) refl
+  where
+    at : (b : Bool) → (version == 1) ≡ b → (not b || c.glk) ≡ true
+    at true one = h (eqb-true version 1 one)
+    at false one = refl
+
 pub given_of : (p : MachineParts) → is_given p ≡ true → IsGiven p
 unfolding is_given
 given_of p e =
-    let a = and_parts (p.version == 1) (list_all is_event_part p.events && (has_queries p.controller && have_codes p.firmware)) e in
-    let b = and_parts (list_all is_event_part p.events) (has_queries p.controller && have_codes p.firmware) a.1 in
+    let a = and_parts (is_version p.version) (has_glk p.version p.controller && (list_all is_event_part p.events && (has_queries p.controller && have_codes p.firmware))) e in
+    let g = and_parts (has_glk p.version p.controller) (list_all is_event_part p.events && (has_queries p.controller && have_codes p.firmware)) a.1 in
+    let b = and_parts (list_all is_event_part p.events) (has_queries p.controller && have_codes p.firmware) g.1 in
     let c = and_parts (has_queries p.controller) (have_codes p.firmware) b.1 in
     record {
-      version = eqb-true p.version 1 a.0;
+      version = version_of p.version a.0;
+      glk = glk_of p.version p.controller g.0;
       events = all_of IsEventPart is_event_part event_of p.events b.0;
       queries = queries_of p.controller c.0;
       firmware = all_of HaveCodes (λ (ops : List Op). list_all has_code ops) codes_of p.firmware c.1;
@@ -108,9 +133,10 @@ given_of p e =
 pub of_given : (p : MachineParts) → IsGiven p → is_given p ≡ true
 unfolding is_given
 of_given p g =
-    true_and (p.version == 1) (list_all is_event_part p.events && (has_queries p.controller && have_codes p.firmware)) (eq-eqb p.version 1 g.version)
+    true_and (is_version p.version) (has_glk p.version p.controller && (list_all is_event_part p.events && (has_queries p.controller && have_codes p.firmware))) (of_version p.version g.version)
+    (true_and (has_glk p.version p.controller) (list_all is_event_part p.events && (has_queries p.controller && have_codes p.firmware)) (of_glk p.version p.controller g.glk)
     (true_and (list_all is_event_part p.events) (has_queries p.controller && have_codes p.firmware) (of_all IsEventPart is_event_part of_event p.events g.events)
-    (true_and (has_queries p.controller) (have_codes p.firmware) (of_queries p.controller g.queries) (of_all HaveCodes (λ (ops : List Op). list_all has_code ops) of_codes p.firmware g.firmware)))
+    (true_and (has_queries p.controller) (have_codes p.firmware) (of_queries p.controller g.queries) (of_all HaveCodes (λ (ops : List Op). list_all has_code ops) of_codes p.firmware g.firmware))))
 
 pub given : (p : MachineParts) (b : Bool) → b ≡ is_given p → IsTrue b ↔ IsGiven p
 given p b e = (λ t. given_of p (sym e ∙ truth b t), λ g. IsTrue_of b (e ∙ of_given p g))

@@ -21,17 +21,17 @@ in_three None None None None None None None (Some x) h i = refl
 in_three None None None None None None None None (Some x) i = refl
 in_three None None None None None None None None None i = refl
 
-pub in_groups : (p : MachineParts) (b : Blocks) → b ≡ blocks p → first_fault p ≡ first_of (gpe_fault b ∷ space_fault p ∷ handlers_fault b p ∷ actors_fault p ∷ [])
+pub in_groups : (p : MachineParts) (b : Blocks) → b ≡ blocks p → first_fault p ≡ first_of (gpe_fault p.version b ∷ space_fault p ∷ handlers_fault b p ∷ actors_fault p ∷ [])
 unfolding first_fault
-in_groups p b e = subst (λ b. first_fault p ≡ first_of (gpe_fault b ∷ space_fault p ∷ handlers_fault b p ∷ actors_fault p ∷ [])) (sym e) (whole p)
+in_groups p b e = subst (λ b. first_fault p ≡ first_of (gpe_fault p.version b ∷ space_fault p ∷ handlers_fault b p ∷ actors_fault p ∷ [])) (sym e) (whole p)
   where
-    whole : (p : MachineParts) → first_fault p ≡ first_of (gpe_fault (blocks p) ∷ space_fault p ∷ handlers_fault (blocks p) p ∷ actors_fault p ∷ [])
+    whole : (p : MachineParts) → first_fault p ≡ first_of (gpe_fault p.version (blocks p) ∷ space_fault p ∷ handlers_fault (blocks p) p ∷ actors_fault p ∷ [])
     whole p = in_three
-        (gpe_fault (blocks p))
+        (gpe_fault p.version (blocks p))
         (workers_fault p.workers)
         (regions_fault (is_some p.controller) p.regions)
         (fields_fault p.regions p.fields)
-        (events_fault (blocks p) (event_of p.controller) (length p.fields) p.events)
+        (events_fault p.version (blocks p) (event_of p.controller) (length p.fields) p.events)
         (controller_fault (blocks p) (event_of p.controller))
         (queries_fault (forbids (map listed_part p.events) (event_of p.controller)) (length p.fields) (queries_of p.controller))
         (firmware_fault (forbids (map listed_part p.events) (event_of p.controller)) (length p.fields) p.firmware)
@@ -39,10 +39,10 @@ in_groups p b e = subst (λ b. first_fault p ≡ first_of (gpe_fault b ∷ space
         (schedule_fault (counts p) p.schedule)
 
 -- where the GPE blocks break no rule, the groups behind them decide
-pub behind_blocks : (p : MachineParts) (b : Blocks) → b ≡ blocks p → gpe_fault (blocks p) ≡ None → first_fault p ≡ first_of (space_fault p ∷ handlers_fault b p ∷ actors_fault p ∷ [])
+pub behind_blocks : (p : MachineParts) (b : Blocks) → b ≡ blocks p → gpe_fault p.version (blocks p) ≡ None → first_fault p ≡ first_of (space_fault p ∷ handlers_fault b p ∷ actors_fault p ∷ [])
 behind_blocks p b same kept =
     in_groups p b same
-    ∙ ap (λ (o : Option BadMachine). first_of (o ∷ space_fault p ∷ handlers_fault b p ∷ actors_fault p ∷ [])) (ap gpe_fault same ∙ kept)
+    ∙ ap (λ (o : Option BadMachine). first_of (o ∷ space_fault p ∷ handlers_fault b p ∷ actors_fault p ∷ [])) (ap (gpe_fault p.version) same ∙ kept)
 
 -- a fault that is there is the first, and one that is not is passed over
 pub stops : {A : Type 0} (o y : Option A) (rest : List (Option A)) → is_some o ≡ true → first_of (o ∷ y ∷ rest) ≡ o

@@ -1,3 +1,4 @@
+pub mod Acting
 pub mod EachItem
 pub mod Facts
 pub mod Forms

@@ -24,10 +24,11 @@ use Rattle.machine_desc.specs.declared.parts.FieldPart.{FieldPart}
 use Rattle.machine_desc.specs.declared.parts.MachineParts.{MachineParts}
 use Rattle.machine_desc.specs.declared.parts.QueryPart.{QueryPart}
 use Rattle.machine_desc.specs.declared.parts.RegionPart.{RegionPart}
-use Rattle.machine_desc.specs.Given.{HasQueries, HaveCodes, IsDescribed, IsEventPart, IsGiven, IsQueryPart}
-use Rattle.machine_desc.specs.Kept.{IsDevice, IsField, IsHandler, IsListed, IsMachine, IsOwnEvent, IsQuery, IsRegion, NoTwo, alike_codes, alike_events, both_controllers, counts_in, event_of_controller, listed_in, own_event, queries_of_controller}
-use Rattle.machine_desc.specs.Machine.{MachineData, controller_of, described, field_of, kind_of, len_of, listed_of, listed_part, query_of, region_of}
-use Rattle.machine_desc.specs.Rules.{at_pulse, blocks, counts, device_rows, event_of, forbids, has_actor, is_controllers, is_event_of, is_in_block, is_known, own_event_rule, queries_of, query_fault, region_fault, unknown_pulse}
+use Rattle.machine_desc.specs.Given.{HasGlk, HasQueries, HaveCodes, IsDescribed, IsEventPart, IsGiven, IsQueryPart}
+use Rattle.machine_desc.specs.Kept.{IsDevice, IsField, IsHandler, IsListed, IsMachine, IsOwnEvent, IsQuery, IsRegion, KeepsGlk, NoTwo, alike_codes, alike_events, both_controllers, counts_in, event_of_controller, listed_in, own_event, queries_of_controller}
+use Rattle.machine_desc.specs.Machine.{MachineData, controller_of, described, field_of, glk, kind_of, len_of, listed_of, listed_part, query_of, region_of}
+use Rattle.machine_desc.specs.Rules.{at_pulse, blocks, counts, device_rows, event_of, forbids, has_actor, is_controllers, is_event_of, is_in_block, is_known, most_events, own_event_rule, queries_of, query_fault, region_fault, unknown_pulse}
+use Rattle.machine_desc.proofs.Acting.{as_many}
 use Rattle.machine_desc.proofs.EachItem.{Each, PartKept, all_each, any_before, any_mapped, each_all, few, no_two, none, unbroken, unmapped}
 use Rattle.machine_desc.proofs.Facts.{RulesKept, ScriptKept, event_kept, field_kept, forbidden, isnt, kept, query_kept, region_kept, script_kept}
 
@@ -123,6 +124,10 @@ same_counts p = ap (λ (b : Bool). counted b) (same_some p.controller)
     counted : Bool → Counts
     counted b = record { workers = p.workers; controller = b; devices = length p.devices; firmware = length p.firmware }
 
+same_glk : (version : ℕ) (c : Option ControllerPart) → HasGlk version c → KeepsGlk version (option_map controller_of c)
+same_glk version None h = tt
+same_glk version (Some c) h = h
+
 -- ---- the items
 
 handler : (p : MachineParts) (of_side : Side) (ops : List Op) → ScriptKept (forbidden p) of_side (length p.fields) ops → HaveCodes ops → IsHandler (described p) of_side ops
@@ -136,7 +141,7 @@ handler p of_side ops k codes =
     record {
       short = k.short;
       faultless = three;
-      accepted = record { forbidden = forbidden p; of_side = of_side; faultless = one; short = k.short };
+      accepted = record { forbidden = forbidden p; of_side = of_side; faultless = subst (λ (n : ℕ). script_fault (forbidden p) of_side n ops ≡ None) (sym (as_many (glk (described p)) (map (field_of p.regions) p.fields))) one; short = k.short };
       codes = codes;
     }
 
@@ -255,6 +260,7 @@ shorter f xs n less = subst (λ m. m ≤ n) (sym (length-map xs f)) less
 of_parts : (p : MachineParts) → IsGiven p → RulesKept p → IsMachine (described p)
 of_parts p given h = record {
   version = given.version;
+  glk = same_glk p.version p.controller given.glk;
   geometry = h.geometry;
   few_gpes = h.few_gpes;
   some_workers = h.some_workers;
@@ -264,7 +270,7 @@ of_parts p given h = record {
   one_controller = one_controller (is_some p.controller) p.regions h.regions;
   few_fields = shorter (field_of p.regions) p.fields 256 h.fields.few_items;
   fields = all_each (IsField (described p)) (map (field_of p.regions) p.fields) (each_mapped (IsField (described p)) (field_of p.regions) p.fields (field p h));
-  few_events = shorter listed_of p.events 132 h.events.few_items;
+  few_events = shorter listed_of p.events (most_events p.version) h.events.few_items;
   events = all_each (IsListed (described p)) (map listed_of p.events) (each_mapped (IsListed (described p)) listed_of p.events (listed p given h));
   distinct_events = distinct_events p h;
   own = subst (IsOwnEvent (described p)) (sym (same_own p.controller)) (own p (event_of p.controller) h.own);

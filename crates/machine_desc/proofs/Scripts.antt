@@ -19,10 +19,11 @@ use Rattle.handler_script.specs.Each.{IsTrueOn, act_alone}
 use Rattle.handler_script.specs.Parts.{access_needs, bursts, read_in, write_in}
 use Rattle.handler_script.proofs.Each.{each}
 use Rattle.handler_script.proofs.Locks.{plan_locked}
-use Rattle.machine_desc.specs.Kept.{IsField, IsHandler, IsListed, IsMachine, IsQuery, IsRegion, listed_in, own_event, queries_in}
-use Rattle.machine_desc.specs.Machine.{MachineData}
+use Rattle.machine_desc.specs.Kept.{IsHandler, IsListed, IsMachine, IsQuery, IsRegion, listed_in, own_event, queries_in}
+use Rattle.machine_desc.specs.Machine.{MachineData, act_fields}
 use Rattle.machine_desc.specs.Rules.{forbids, is_listed}
 use Rattle.machine_desc.specs.Scripts.{IsServed, RunsWell, ServesAll, suits_side}
+use Rattle.machine_desc.proofs.Acting.{act_field}
 use Rattle.machine_desc.proofs.EachItem.{all_each, each_all}
 
 -- ---- what a side's script may have
@@ -84,9 +85,9 @@ alone_suits m s o x ok may is = at s o ok may (act_alone o) refl is
 
 -- ---- fields: one of the controller's stands beside a controller
 
-field_controls : (m : MachineData) → IsMachine m → (f : ℕ) (field : Field) → slice_get m.fields f ≡ Some field → is_controller field.kind ≡ true → is_some m.controller ≡ true
+field_controls : (m : MachineData) → IsMachine m → (f : ℕ) (field : Field) → slice_get (act_fields m) f ≡ Some field → is_controller field.kind ≡ true → is_some m.controller ≡ true
 field_controls m ok f field at controls =
-    let is = each_all (IsField m) m.fields ok.fields f field at in
+    let is = act_field m ok f field at in
     (each_all (IsRegion m) m.regions ok.regions field.region is.region is.named).owner (ap is_controller (sym is.kind) ∙ controls)
 
 read_suits : (m : MachineData) (s : Side) (needs : Bool) (k : RegionKind) (field : Field) (i : ℕ) → (is_controller k ≡ true → is_some m.controller ≡ true) → suits_side m s needs (read_in k field i) ≡ true
@@ -97,10 +98,10 @@ write_suits : (m : MachineData) (s : Side) (needs : Bool) (k : RegionKind) (fiel
 write_suits m s needs region_kind.Memory field i byte controls = refl
 write_suits m s needs region_kind.Controller field i byte controls = controls refl
 
-field_suits : (m : MachineData) (s : Side) → IsMachine m → (f : ℕ) (field : Field) → slice_get m.fields f ≡ Some field → IsTrueOn (suits_side m s) field
+field_suits : (m : MachineData) (s : Side) → IsMachine m → (f : ℕ) (field : Field) → slice_get (act_fields m) f ≡ Some field → IsTrueOn (suits_side m s) field
 field_suits m s ok f field at = record {
   lock = λ n. (refl, refl);
-  burst = λ b. (let has = field_controls m ok f field at (bursting (field.kind) b) in (has, has));
+  burst = λ held b. (let has = field_controls m ok f field at (bursting (field.kind) b) in (has, has));
   read = λ held k below. read_suits m s (access_needs field held) field.kind field k (field_controls m ok f field at);
   write = λ held k byte below. write_suits m s (access_needs field held) field.kind field k byte (field_controls m ok f field at);
 }
@@ -114,8 +115,8 @@ field_suits m s ok f field at = record {
 pub runs_well : (m : MachineData) → IsMachine m → (s : Side) (ops : List Op) → IsHandler m s ops → RunsWell m s ops
 unfolding script_fault
 runs_well m ok s ops handler = record {
-  locked = plan_locked m.fields ops handler.accepted;
-  suited = each (suits_side m s) m.fields ops (field_suits m s ok) (λ i o x at is. (let may = op_allowed (forbids (listed_in m) (own_event m)) s (length m.fields) None 0 ops handler.faultless i o at in alone_suits m s o x may.0 may.1 is));
+  locked = plan_locked (act_fields m) ops handler.accepted;
+  suited = each (suits_side m s) (act_fields m) ops (field_suits m s ok) (λ i o x at is. (let may = op_allowed (forbids (listed_in m) (own_event m)) s (length m.fields) None 0 ops handler.faultless i o at in alone_suits m s o x may.0 may.1 is));
 }
 
 pub can_serve : ServesAll

@@ -1,17 +1,30 @@
 -- What the parts of a description are before any rule is tested, and which machines they describe.
-use Rattle.std.specs.Prelude.{◌≡◌, ◌==◌, ◌&&◌, not, nat_lt, ◌<◌, Bool, true, false, List, All, Option, Some, None}
+use Rattle.std.specs.Prelude.{ℕ, ◌≡◌, ◌==◌, ◌&&◌, ◌||◌, ◌⊎◌, not, nat_lt, ◌<◌, Bool, true, false, List, All, Option, Some, None}
 use Rattle.std.specs.List.{list_all}
 use Rattle.acpi_regs.specs.declared.event.Event.{Event}
 use Rattle.acpi_regs.specs.declared.event.Event.TheVariants as event
 use Rattle.acpi_regs.specs.Event.{is_gbl}
+use Rattle.field_units.specs.Field.{Field}
 use Rattle.handler_script.specs.declared.op.Op.{Op}
 use Rattle.handler_script.specs.declared.op.Op.TheVariants as op
 use Rattle.machine_desc.specs.declared.parts.ControllerPart.{ControllerPart}
 use Rattle.machine_desc.specs.declared.parts.EventPart.{EventPart}
 use Rattle.machine_desc.specs.declared.parts.MachineParts.{MachineParts}
 use Rattle.machine_desc.specs.declared.parts.QueryPart.{QueryPart}
-use Rattle.machine_desc.specs.Machine.{MachineData, described}
+use Rattle.machine_desc.specs.Machine.{MachineData, act_fields, described}
 use Rattle.machine_desc.specs.Rules.{first_fault}
+
+-- a description is of version 1 or 2
+abbrev pub IsVersion : ℕ → Type 0
+IsVersion version = (version ≡ 1) ⊎ (version ≡ 2)
+
+-- in version 1, which does not say so, each controller needs the Global Lock
+abbrev pub FitsVersion : ℕ → Bool → Type 0
+FitsVersion version glk = version ≡ 1 → glk ≡ true
+
+abbrev pub HasGlk : ℕ → Option ControllerPart → Type 0
+HasGlk version None = Unit {0}
+HasGlk version (Some c) = FitsVersion version c.glk
 
 -- only a general-purpose event is level
 abbrev pub HasLevel : Event → Bool → Type 0
@@ -42,12 +55,20 @@ HasQueries (Some c) = All IsQueryPart c.queries
 
 -- what the form of a description sees to
 pub record IsGiven (p : MachineParts) : Type 0 where
-  pub version : p.version ≡ 1
+  pub version : IsVersion p.version
+  pub glk : HasGlk p.version p.controller
   pub events : All IsEventPart p.events
   pub queries : HasQueries p.controller
   pub firmware : All HaveCodes p.firmware
 
 -- the same as tests
+
+abbrev pub is_version : ℕ → Bool
+is_version version = (version == 1) || (version == 2)
+
+abbrev pub has_glk : ℕ → Option ControllerPart → Bool
+has_glk version None = true
+has_glk version (Some c) = not (version == 1) || c.glk
 
 abbrev pub has_level : Event → Bool → Bool
 has_level (event.Fixed f) level = not level
@@ -71,7 +92,9 @@ abbrev pub have_codes : List (List Op) → Bool
 have_codes scripts = list_all (λ ops. list_all has_code ops) scripts
 
 unfoldable pub is_given : MachineParts → Bool
-is_given p = (p.version == 1) && (list_all is_event_part p.events && (has_queries p.controller && have_codes p.firmware))
+is_given p =
+    is_version p.version
+    && (has_glk p.version p.controller && (list_all is_event_part p.events && (has_queries p.controller && have_codes p.firmware)))
 
 -- some parts describe the machine and break no rule
 pub record IsDescribed (m : MachineData) : Type 0 where
@@ -79,3 +102,8 @@ pub record IsDescribed (m : MachineData) : Type 0 where
   pub given : IsGiven parts
   pub kept : first_fault parts ≡ None
   pub same : described parts ≡ m
+
+-- ... and the fields that acts go by are those of the machine
+pub record IsKept (acting : List Field) (m : MachineData) : Type 0 where
+  pub described : IsDescribed m
+  pub acts : acting ≡ act_fields m

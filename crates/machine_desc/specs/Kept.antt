@@ -13,9 +13,9 @@ use Rattle.machine_desc.specs.declared.lists.Counts.{Counts}
 use Rattle.machine_desc.specs.declared.machine.ControllerDesc.{ControllerDesc}
 use Rattle.machine_desc.specs.declared.machine.ListedEvent.{ListedEvent}
 use Rattle.machine_desc.specs.declared.machine.Query.{Query}
-use Rattle.machine_desc.specs.Given.{HasLevel, HaveCodes}
-use Rattle.machine_desc.specs.Machine.{MachineData}
-use Rattle.machine_desc.specs.Rules.{forbids, has_actor, is_event_of, is_in_block, is_in_no_block, is_known}
+use Rattle.machine_desc.specs.Given.{FitsVersion, HasLevel, HaveCodes, IsVersion}
+use Rattle.machine_desc.specs.Machine.{MachineData, act_fields}
+use Rattle.machine_desc.specs.Rules.{forbids, has_actor, is_event_of, is_in_block, is_in_no_block, is_known, most_events, most_gpes}
 
 -- ---- parts of a machine
 
@@ -69,7 +69,7 @@ pub record IsField (m : MachineData) (f : Field) : Type 0 where
 pub record IsHandler (m : MachineData) (of_side : Side) (ops : List Op) : Type 0 where
   pub short : length ops ≤ 4096
   pub faultless : script_fault (forbids (listed_in m) (own_event m)) of_side (length m.fields) ops ≡ None
-  pub accepted : Accepted m.fields ops
+  pub accepted : Accepted (act_fields m) ops
   pub codes : HaveCodes ops
 
 -- a listed event is neither that of the Global Lock nor the controller's; a GPE stands in a block, and alone may be level
@@ -104,12 +104,18 @@ alike_codes x y = x.code == y.code
 abbrev pub both_controllers : RegionData → RegionData → Bool
 both_controllers x y = is_controller x.kind && is_controller y.kind
 
+-- in version 1 each controller needs the Global Lock
+abbrev pub KeepsGlk : ℕ → Option ControllerDesc → Type 0
+KeepsGlk version None = Unit {0}
+KeepsGlk version (Some c) = FitsVersion version c.glk
+
 -- ---- the machine
 
 pub record IsMachine (m : MachineData) : Type 0 where
-  pub version : m.version ≡ 1
+  pub version : IsVersion m.version
+  pub glk : KeepsGlk m.version m.controller
   pub geometry : bad_field (blocks_in m) ≡ None
-  pub few_gpes : end_of (blocks_in m) ≤ 128
+  pub few_gpes : end_of (blocks_in m) ≤ most_gpes m.version
   pub some_workers : 1 ≤ m.workers
   pub few_workers : m.workers ≤ 4
   pub few_regions : length m.regions ≤ 16
@@ -117,7 +123,7 @@ pub record IsMachine (m : MachineData) : Type 0 where
   pub one_controller : NoTwo both_controllers m.regions
   pub few_fields : length m.fields ≤ 256
   pub fields : All (IsField m) m.fields
-  pub few_events : length m.events ≤ 132
+  pub few_events : length m.events ≤ most_events m.version
   pub events : All (IsListed m) m.events
   pub distinct_events : NoTwo alike_events m.events
   pub own : IsOwnEvent m (own_event m)

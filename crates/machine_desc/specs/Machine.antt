@@ -1,5 +1,5 @@
 -- A machine as plain data, and the machine that the parts of a description describe.
-use Rattle.std.specs.Prelude.{ℕ, ◌-◌, Bool, true, false, List, length, map, replicate, ◌++◌, Option, Some, None, option_map, slice_get}
+use Rattle.std.specs.Prelude.{ℕ, ◌-◌, ◌==◌, ◌&&◌, ◌||◌, Bool, true, false, List, length, map, replicate, ◌++◌, Option, Some, None, option_map, slice_get}
 use Rattle.acpi_regs.specs.declared.actor.Actor.{Actor}
 use Rattle.acpi_regs.specs.declared.event.Event.{Event}
 use Rattle.acpi_regs.specs.declared.event.Listed.{Listed}
@@ -7,7 +7,7 @@ use Rattle.field_units.specs.declared.rules.LockRule.{LockRule}
 use Rattle.field_units.specs.declared.rules.LockRule.TheVariants as lock
 use Rattle.field_units.specs.declared.rules.RegionKind.{RegionKind}
 use Rattle.field_units.specs.declared.rules.RegionKind.TheVariants as kind
-use Rattle.field_units.specs.Field.{Field, RegionData}
+use Rattle.field_units.specs.Field.{Field, RegionData, is_controller}
 use Rattle.handler_script.specs.declared.op.Op.{Op}
 use Rattle.machine_desc.specs.declared.machine.ControllerDesc.{ControllerDesc}
 use Rattle.machine_desc.specs.declared.machine.ListedEvent.{ListedEvent}
@@ -67,7 +67,7 @@ abbrev pub query_of : QueryPart → Query
 query_of q = record { code = q.code; script = q.script }
 
 abbrev pub controller_of : ControllerPart → ControllerDesc
-controller_of c = record { event = c.event; silent = c.silent; fickle = c.fickle; queries = map query_of c.queries }
+controller_of c = record { event = c.event; silent = c.silent; fickle = c.fickle; glk = c.glk; queries = map query_of c.queries }
 
 -- the machine that parts describe
 abbrev pub described : MachineParts → MachineData
@@ -85,3 +85,29 @@ described p = record {
   devices = p.devices;
   schedule = p.schedule;
 }
+
+-- ---- the Global Lock and the controller (`_GLK`, ACPI 6.5, section 6.5.7)
+
+-- the controller needs the Global Lock: in version 1 always, from version 2 on where its description says so
+abbrev pub glk_in : ℕ → Option ControllerDesc → Bool
+glk_in version None = false
+glk_in version (Some c) = (version == 1) || c.glk
+
+abbrev pub glk : MachineData → Bool
+glk m = glk_in m.version m.controller
+
+-- the rule Lock where it is asked for, and else the rule that is given
+abbrev pub lock_where : Bool → LockRule → LockRule
+lock_where false rule = rule
+lock_where true rule = lock.Lock
+
+-- a field with the lock rule that acts go by: Lock where its own rule is Lock, or where its region is the controller's, which needs the lock
+abbrev pub acting : Bool → Field → Field
+acting needs f = record f { lock = lock_where (is_controller f.kind && needs) f.lock }
+
+unfoldable pub act_fields_of : Bool → List Field → List Field
+act_fields_of needs fields = map (acting needs) fields
+
+-- the fields of the machine, in its order, with the lock rules that acts go by
+abbrev pub act_fields : MachineData → List Field
+act_fields m = act_fields_of (glk m) m.fields

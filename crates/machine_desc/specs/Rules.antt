@@ -1,5 +1,5 @@
 -- The rules of a machine, part by part and item by item, each list in the order in which its rules are tested.
-use Rattle.std.specs.Prelude.{ℕ, ◌+◌, ◌*◌, Bool, true, false, ◌&&◌, ◌||◌, not, ◌==◌, nat_lt, List, [], ◌∷◌, length, position, Option, Some, None, is_some, is_none, map, option_map, slice_get}
+use Rattle.std.specs.Prelude.{ℕ, ◌+◌, ◌*◌, Bool, true, false, ◌&&◌, ◌||◌, not, ◌==◌, nat_lt, List, [], ◌∷◌, length, position, Option, Some, None, is_some, is_none, map, option_map, slice_get, if◌then◌else◌}
 use Rattle.std.specs.List.{list_any}
 use Rattle.acpi_regs.specs.declared.actor.Actor.{Actor}
 use Rattle.acpi_regs.specs.declared.actor.Actor.TheVariants as actor
@@ -36,14 +36,22 @@ use Rattle.machine_desc.specs.Machine.{len_of, listed_part}
 abbrev pub blocks : MachineParts → Blocks
 blocks p = record { gpe0 = p.gpe0; base1 = p.base1; gpe1 = p.gpe1 }
 
-abbrev pub gpe_rows : Blocks → List (Option Spot)
-gpe_rows b =
+-- The most numbers that the blocks may end at, and the most events that may be listed: in version 1 those of 128 GPEs and four fixed
+-- events, from version 2 on those of 256 (ACPI 6.5, section 4.8.4.1).
+abbrev pub most_gpes : ℕ → ℕ
+most_gpes version = if version == 1 then 128 else 256
+
+abbrev pub most_events : ℕ → ℕ
+most_events version = if version == 1 then 132 else 260
+
+abbrev pub gpe_rows : ℕ → Blocks → List (Option Spot)
+gpe_rows version b =
     breaks (is_some (bad_field b)) rule.BadGeometry
-    ∷ breaks (nat_lt 128 (end_of b)) rule.TooManyEvents
+    ∷ breaks (nat_lt (most_gpes version) (end_of b)) rule.TooManyEvents
     ∷ []
 
-unfoldable pub gpe_fault : Blocks → Option BadMachine
-gpe_fault b = in_item part.Gpe 0 (first_of (gpe_rows b))
+unfoldable pub gpe_fault : ℕ → Blocks → Option BadMachine
+gpe_fault version b = in_item part.Gpe 0 (first_of (gpe_rows version b))
 
 unfoldable pub workers_fault : ℕ → Option BadMachine
 workers_fault workers = in_item part.Workers 0 (breaks (nat_lt workers 1 || nat_lt 4 workers) rule.BadWorkers)
@@ -156,8 +164,10 @@ event_rows b own forbidden fields before e =
 abbrev pub event_fault : Blocks → Option Event → (Op → Bool) → ℕ → List EventPart → EventPart → Option Spot
 event_fault b own forbidden fields before e = first_of (event_rows b own forbidden fields before e)
 
-unfoldable pub events_fault : Blocks → Option Event → ℕ → List EventPart → Option BadMachine
-events_fault b own fields events = in_items part.Event (breaks (nat_lt 132 (length events)) rule.TooMany) (event_fault b own (forbids (map listed_part events) own) fields) events
+unfoldable pub events_fault : ℕ → Blocks → Option Event → ℕ → List EventPart → Option BadMachine
+events_fault version b own fields events =
+    in_items part.Event (breaks (nat_lt (most_events version) (length events)) rule.TooMany)
+    (event_fault b own (forbids (map listed_part events) own) fields) events
 
 -- ---- Controller and Query
 
@@ -240,11 +250,11 @@ schedule_fault n schedule = in_items part.Schedule (breaks (nat_lt 65536 (length
 
 abbrev pub machine_rows : MachineParts → List (Option BadMachine)
 machine_rows p =
-    gpe_fault (blocks p)
+    gpe_fault p.version (blocks p)
     ∷ workers_fault p.workers
     ∷ regions_fault (is_some p.controller) p.regions
     ∷ fields_fault p.regions p.fields
-    ∷ events_fault (blocks p) (event_of p.controller) (length p.fields) p.events
+    ∷ events_fault p.version (blocks p) (event_of p.controller) (length p.fields) p.events
     ∷ controller_fault (blocks p) (event_of p.controller)
     ∷ queries_fault (forbids (map listed_part p.events) (event_of p.controller)) (length p.fields) (queries_of p.controller)
     ∷ firmware_fault (forbids (map listed_part p.events) (event_of p.controller)) (length p.fields) p.firmware

@@ -11,7 +11,7 @@ use Rattle.handler_script.specs.Locked.{Locked}
 use Rattle.handler_script.specs.Plan.{plan}
 use Rattle.machine_desc.specs.declared.machine.ListedEvent.{ListedEvent}
 use Rattle.machine_desc.specs.Kept.{IsMachine, listed_in, own_event, queries_in}
-use Rattle.machine_desc.specs.Machine.{MachineData}
+use Rattle.machine_desc.specs.Machine.{MachineData, act_fields}
 use Rattle.machine_desc.specs.Rules.{is_event_of, is_listed}
 
 abbrev pub of_os : Side → Bool
@@ -36,8 +36,8 @@ suits_side m s needs _ = true
 
 -- the script takes the lock and gives it back in turn, holds it where it needs it and not at its end, and makes such acts alone
 pub record RunsWell (m : MachineData) (s : Side) (ops : List Op) : Type 0 where
-  pub locked : Locked false (plan m.fields ops)
-  pub suited : Each (suits_side m s) (plan m.fields ops)
+  pub locked : Locked false (plan (act_fields m) ops)
+  pub suited : Each (suits_side m s) (plan (act_fields m) ops)
 
 -- a listed event is neither that of the Global Lock nor the controller's
 pub record IsServed (m : MachineData) (e : ListedEvent) : Type 0 where

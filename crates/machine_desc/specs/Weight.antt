@@ -15,7 +15,7 @@ use Rattle.machine_desc.specs.declared.machine.Query.{Query}
 use Rattle.machine_desc.specs.declared.tally.Tally.{Tally}
 use Rattle.machine_desc.specs.declared.tally.Tally.TheVariants as tally
 use Rattle.machine_desc.specs.Kept.{own_event, queries_in}
-use Rattle.machine_desc.specs.Machine.{MachineData}
+use Rattle.machine_desc.specs.Machine.{MachineData, act_fields}
 
 abbrev pub one_if : Bool → ℕ
 one_if test = if test then 1 else 0
@@ -111,17 +111,17 @@ own_calls m (Some e) = calls_of m e
 -- ---- sums of sizes and of moves: of the firmware, of the runs of listed events, and of the handlers of pushed codes
 
 unfoldable pub firmware_size : MachineData → ℕ
-firmware_size m = sum_by (script_size m.fields) m.firmware
+firmware_size m = sum_by (script_size (act_fields m)) m.firmware
 
 unfoldable pub firmware_moves : MachineData → ℕ
-firmware_moves m = sum_by (script_moves m.fields) m.firmware
+firmware_moves m = sum_by (script_moves (act_fields m)) m.firmware
 
 -- a run is claimed, started and finished
 abbrev pub event_size : MachineData → ListedEvent → ℕ
-event_size m e = runs_of m e.listed.event * (3 + script_size m.fields e.script)
+event_size m e = runs_of m e.listed.event * (3 + script_size (act_fields m) e.script)
 
 abbrev pub event_moves : MachineData → ListedEvent → ℕ
-event_moves m e = runs_of m e.listed.event * script_moves m.fields e.script
+event_moves m e = runs_of m e.listed.event * script_moves (act_fields m) e.script
 
 unfoldable pub events_size : MachineData → ℕ
 events_size m = sum_by (event_size m) m.events
@@ -130,10 +130,10 @@ unfoldable pub events_moves : MachineData → ℕ
 events_moves m = sum_by (event_moves m) m.events
 
 abbrev pub query_size : MachineData → Query → ℕ
-query_size m q = in_firmware (tally.Code q.code) m.firmware * script_size m.fields q.script
+query_size m q = in_firmware (tally.Code q.code) m.firmware * script_size (act_fields m) q.script
 
 abbrev pub query_moves : MachineData → Query → ℕ
-query_moves m q = in_firmware (tally.Code q.code) m.firmware * script_moves m.fields q.script
+query_moves m q = in_firmware (tally.Code q.code) m.firmware * script_moves (act_fields m) q.script
 
 unfoldable pub queries_size : MachineData → ℕ
 queries_size m = sum_by (query_size m) (queries_in m)

@@ -1,11 +1,11 @@
 //! Making the parts of a machine from parts that break no rule.
 ghost use Rattle.std.specs.Prelude.{◌≡◌, ◌≤◌, All, IfOk, List, length, map, slice_get};
-ghost use Rattle.machine_desc.specs.Machine.{field_of, listed_of, lock_of, query_of, region_of};
+ghost use Rattle.machine_desc.specs.Machine.{act_fields_of, acting, field_of, listed_of, lock_of, query_of, region_of};
 ghost use Rattle.machine_desc.specs.Sound.{IsFieldIn, IsRegionPart, IsSoundEvent, IsSoundQuery, IsSoundScript};
 
 use crate::{EventPart, FieldPart, Items, ListedEvent, Query, QueryPart, RegionPart};
 use acpi_regs::{Listed, Memory};
-use field_units::{FieldUnit, LockRule, Region};
+use field_units::{FieldUnit, LockRule, Region, RegionKind};
 use handler_script::{Op, Script};
 use std::alloc::Global;
 
@@ -74,6 +74,33 @@ pub fn fields_of(
         fields.push(field_of(regions, part))?;
     }
     Ok(Items::new(fields))
+}
+
+/// A field with the lock rule that acts go by, where the controller needs the lock or not.
+fn acting(needs: bool, field: &FieldUnit) -> FieldUnit
+    ensures { result ≡ acting needs field.now }
+{
+    if needs && matches!(field.kind(), RegionKind::Controller) {
+        field.with_lock(LockRule::Lock)
+    } else {
+        *field
+    }
+}
+
+/// The fields with the lock rules that acts go by.
+#[tactic(auto, unfolding(crate::specs::Machine::act_fields_of))]
+pub fn acting_of(
+    alloc: Global,
+    needs: bool,
+    fields: &[FieldUnit],
+) -> Result<Items<FieldUnit>, Memory>
+    ensures { IfOk result (λ acting. acting ≡ act_fields_of needs fields.now) }
+{
+    let mut made = Vec::with_capacity(alloc, fields.len())?;
+    for field in fields {
+        made.push(acting(needs, field))?;
+    }
+    Ok(Items::new(made))
 }
 
 /// The event that a part lists.

@@ -40,7 +40,7 @@ pub fn events_copied(alloc: Global, machine: &Machine) -> Result<Items<ListedEve
     ensures { IfOk result (λ copies. copies ≡ machine.now.events) }
 {
     machine.law_rules();
-    let fields = machine.fields();
+    let fields = machine.act_fields();
     let mut copies = Vec::with_capacity(alloc, machine.events().len())?;
     for event in machine.events() {
         copies.push(ListedEvent {
@@ -56,7 +56,7 @@ pub fn firmware_copied(alloc: Global, machine: &Machine) -> Result<Items<Script>
     ensures { IfOk result (λ copies. copies ≡ machine.now.firmware) }
 {
     machine.law_rules();
-    let fields = machine.fields();
+    let fields = machine.act_fields();
     let mut copies = Vec::with_capacity(alloc, machine.firmware().len())?;
     for script in machine.firmware() {
         copies.push(script_copied(alloc, fields, script)?)?;
@@ -96,7 +96,8 @@ pub fn controller_copied(alloc: Global, machine: &Machine) -> Result<Option<Cont
         event: controller.event,
         silent: controller.silent,
         fickle: controller.fickle,
-        queries: queries_copied(alloc, machine.fields(), queries)?,
+        glk: controller.glk,
+        queries: queries_copied(alloc, machine.act_fields(), queries)?,
     }))
 }
 

@@ -5,7 +5,7 @@ use acpi_regs::Memory;
 pub enum Rule {
     /// The lengths and the base of the GPE blocks fit not (ACPI 6.5, section 4.8.4.1).
     BadGeometry,
-    /// A GPE block ends above event 127.
+    /// A GPE block ends above event 127 in a description of version 1.
     TooManyEvents,
     /// There are not 1 to 4 workers.
     BadWorkers,
@@ -57,7 +57,8 @@ pub enum Part {
     Region,
     /// At most 256 fields: `UnknownRegion`, `BadWidth`, `OutsideRegion`.
     Field,
-    /// At most 132 listed events: `UnknownEvent`, `TakenEvent`, `BadRefs`, and the rules of a script of the OS.
+    /// At most 132 listed events in version 1, and 260 in version 2: `UnknownEvent`, `TakenEvent`, `BadRefs`, and the rules of a
+    /// script of the OS.
     Event,
     /// The controller: `UnknownEvent`.
     Controller,

@@ -72,12 +72,22 @@ fn scripts_have_codes(scripts: &[Items<Op>]) -> bool
     scripts.iter().all(|script| have_codes(script.as_slice()))
 }
 
+fn has_glk(version: u8, controller: &Option<ControllerPart>) -> bool
+    ensures { result ≡ given.has_glk version controller.now }
+{
+    match controller {
+        Some(controller) => version != 1 || controller.glk,
+        None => true,
+    }
+}
+
 /// Whether the parts have the form of a description.
 #[tactic(auto, unfolding(crate::specs::Given::is_given))]
 fn passes(parts: &MachineParts) -> bool
     ensures { result ≡ given.is_given parts.now }
 {
-    parts.version == 1
+    (parts.version == 1 || parts.version == 2)
+        && has_glk(parts.version, &parts.controller)
         && are_event_parts(parts.events.as_slice())
         && has_queries(&parts.controller)
         && scripts_have_codes(parts.firmware.as_slice())

@@ -4,12 +4,12 @@ ghost use Rattle.machine_desc.specs.Actors.{actors_of};
 ghost use Rattle.machine_desc.specs.Answers.{Answers};
 ghost use Rattle.machine_desc.specs.Given.{IsDescribed, IsGiven};
 ghost use Rattle.machine_desc.specs.Kept.{IsMachine};
-ghost use Rattle.machine_desc.specs.Machine.{controller_of, described};
+ghost use Rattle.machine_desc.specs.Machine.{act_fields, act_fields_of, acting, controller_of, described, glk, glk_in};
 ghost use Rattle.machine_desc.specs.Rules.{first_fault};
 ghost use Rattle.machine_desc.specs.Sound.{AreSound, AreSoundQueries};
 ghost use Rattle.machine_desc.specs.Weight.{weight_of};
 
-use crate::build::{events_of, fields_of, queries_of, regions_of, scripts_of};
+use crate::build::{acting_of, events_of, fields_of, queries_of, regions_of, scripts_of};
 use crate::copy::{
     controller_copied, devices_copied, events_copied, firmware_copied, regions_copied,
 };
@@ -49,6 +49,8 @@ pub struct ControllerDesc {
     pub silent: bool,
     /// Whether it may leave burst mode of its own accord.
     pub fickle: bool,
+    /// Whether requests to it need the Global Lock (`_GLK`, ACPI 6.5, section 6.5.7); always in version 1.
+    pub glk: bool,
     /// The handlers of its query codes.
     pub queries: Items<Query>,
 }
@@ -63,6 +65,8 @@ pub struct Machine {
     workers: u8,
     regions: Items<Region>,
     fields: Items<FieldUnit>,
+    /// The fields once more, with the lock rules that acts go by.
+    acting: Items<FieldUnit>,
     events: Items<ListedEvent>,
     controller: Option<ControllerDesc>,
     firmware: Items<Script>,
@@ -75,7 +79,7 @@ impl Model for Machine {
 
     ghost Value = { MachineData };
 
-    ghost use Rattle.machine_desc.specs.Given.{IsDescribed};
+    ghost use Rattle.machine_desc.specs.Given.{IsKept};
 
     ghost view = { λ m. record {
       version = m.version;
@@ -92,7 +96,7 @@ impl Model for Machine {
       schedule = m.schedule;
     } };
 
-    ghost invariant = { λ m. IsDescribed (record {
+    ghost invariant = { λ m. IsKept m.acting (record {
       version = m.version;
       gpe0 = m.gpe0;
       base1 = m.base1;
@@ -124,7 +128,7 @@ impl Machine {
         }
     }
 
-    /// The version of the description, 1.
+    /// The version of the description, 1 or 2.
     pub fn version(&self) -> u8
         ensures { result ≡ self.now.version }
     {
@@ -166,11 +170,19 @@ impl Machine {
         self.regions.as_slice()
     }
 
-    /// The fields, in the description's order.
+    /// The fields, in the description's order, with its lock rules.
     pub fn fields(&self) -> &[FieldUnit]
         ensures { result.now ≡ self.now.fields }
     {
         self.fields.as_slice()
+    }
+
+    /// The fields, in the description's order, with the lock rules that acts go by: Lock also where the region is the controller's
+    /// and the controller needs the lock.
+    pub fn act_fields(&self) -> &[FieldUnit]
+        ensures { result.now ≡ act_fields self.now }
+    {
+        self.acting.as_slice()
     }
 
     /// The events that have a handler, in the description's order.
@@ -232,11 +244,12 @@ impl Machine {
         served::actor(self, k)
     }
 
-    /// An equal machine, or want of memory.
+    /// An equal machine. Fails only if memory runs out.
     pub fn copied(&self, alloc: Global) -> Result<Machine, Memory>
         ensures { IfOk result (λ machine. machine ≡ self.now) }
     {
         let fields = Items::new(Vec::from_slice(alloc, self.fields())?);
+        let acting = Items::new(Vec::from_slice(alloc, self.act_fields())?);
         let schedule = Items::new(Vec::from_slice(alloc, self.schedule())?);
         Ok(Machine {
             version: self.version,
@@ -246,6 +259,7 @@ impl Machine {
             workers: self.workers,
             regions: regions_copied(alloc, self.regions())?,
             fields,
+            acting,
             events: events_copied(alloc, self)?,
             controller: controller_copied(alloc, self)?,
             firmware: firmware_copied(alloc, self)?,
@@ -284,8 +298,19 @@ fn controller_of(
         event: part.event,
         silent: part.silent,
         fickle: part.fickle,
+        glk: part.glk,
         queries: queries_of(alloc, part.queries.into_vec())?,
     }))
+}
+
+/// Whether the controller needs the Global Lock, in a description of this version.
+fn glk(version: u8, controller: &Option<ControllerDesc>) -> bool
+    ensures { result ≡ glk_in version controller.now }
+{
+    match controller {
+        Some(controller) => version == 1 || controller.glk,
+        None => false,
+    }
 }
 
 /// The machine that parts describe which break no rule.
@@ -296,6 +321,8 @@ fn machine_of(alloc: Global, parts: MachineParts) -> Result<Machine, Memory>
     ensures { IfOk result (λ machine. machine ≡ described parts) }
 {
     let fields = fields_of(alloc, parts.regions.as_slice(), parts.fields.as_slice())?;
+    let controller = controller_of(alloc, parts.controller)?;
+    let acting = acting_of(alloc, glk(parts.version, &controller), fields.as_slice())?;
     Ok(Machine {
         version: parts.version,
         gpe0: parts.gpe0,
@@ -304,8 +331,9 @@ fn machine_of(alloc: Global, parts: MachineParts) -> Result<Machine, Memory>
         workers: parts.workers,
         regions: regions_of(alloc, parts.regions.into_vec())?,
         fields,
+        acting,
         events: events_of(alloc, parts.events.into_vec())?,
-        controller: controller_of(alloc, parts.controller)?,
+        controller,
         firmware: scripts_of(alloc, parts.firmware.into_vec())?,
         devices: parts.devices,
         schedule: parts.schedule,

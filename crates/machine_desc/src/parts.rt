@@ -10,7 +10,7 @@ use handler_script::Op;
 /// What a description says, with no rule tested.
 #[derive(Debug, Drop)]
 pub struct MachineParts {
-    /// The version of the description, which is 1.
+    /// The version of the description, 1 or 2.
     pub version: u8,
     /// How many bytes the first GPE block has (ACPI 6.5, section 4.8.4.1).
     pub gpe0: u16,
@@ -37,8 +37,8 @@ pub struct MachineParts {
 }
 
 impl MachineParts {
-    /// Whether the parts have the form that [`crate::Machine::new`] asks for: version 1, no listed event is the Global Lock's,
-    /// only GPEs are level-triggered, and no query code and no pushed code is 0.
+    /// Whether the parts have the form that [`crate::Machine::new`] asks for: version 1 or 2, in version 1 a controller needs the
+    /// Global Lock, no listed event is the Global Lock's, only GPEs are level-triggered, and no query code and no pushed code is 0.
     pub fn is_given(&self) -> bool
         ensures { IsTrue result ↔ IsGiven self.now }
     {
@@ -94,6 +94,8 @@ pub struct ControllerPart {
     pub silent: bool,
     /// Whether it may leave burst mode of its own accord.
     pub fickle: bool,
+    /// Whether requests to it need the Global Lock (`_GLK`, ACPI 6.5, section 6.5.7); always in version 1.
+    pub glk: bool,
     /// The handlers of its query codes.
     pub queries: Items<QueryPart>,
 }

@@ -54,7 +54,7 @@ fn handlers_fault(parts: &MachineParts, geometry: GpeGeometry) -> Option<BadMach
     let own = event_of(&parts.controller);
     let events = parts.events.as_slice();
     let fields = parts.fields.as_slice().len();
-    let fault = events_fault(geometry, own, fields, events);
+    let fault = events_fault(parts.version, geometry, own, fields, events);
     if fault.is_some() {
         return fault;
     }
@@ -98,7 +98,7 @@ fn actors_fault(parts: &MachineParts) -> Option<BadMachine>
 pub fn first_fault(parts: &MachineParts) -> Option<BadMachine>
     ensures { result ≡ first_fault parts.now }
 {
-    let geometry = match geometry_of(parts.gpe0, parts.base1, parts.gpe1) {
+    let geometry = match geometry_of(parts.version, parts.gpe0, parts.base1, parts.gpe1) {
         Ok(geometry) => geometry,
         Err(bad) => return Some(bad),
     };

@@ -101,22 +101,30 @@ impl ItemRules<EventPart> for ListedRules<'_> {
     }
 }
 
+/// The most events that a description of this version may list: all GPEs and the four fixed events that have a name.
+fn most_events(version: u8) -> usize
+    ensures { result ≡ rules.most_events version }
+{
+    if version == 1 { 132 } else { 260 }
+}
+
 /// The first rule that the listed events break.
 #[tactic(auto, unfolding(crate::specs::Rules::events_fault))]
 pub fn events_fault(
+    version: u8,
     geometry: GpeGeometry,
     own: Option<Event>,
     fields: usize,
     events: &[EventPart],
 ) -> Option<BadMachine>
-    ensures { result ≡ rules.events_fault (blocks_of geometry) own fields events.now }
+    ensures { result ≡ rules.events_fault version (blocks_of geometry) own fields events.now }
 {
     let rules = ListedRules {
         geometry,
         events: KnownEvents { events, own },
         fields,
     };
-    items_fault(Part::Event, 132, &rules, events)
+    items_fault(Part::Event, most_events(version), &rules, events)
 }
 
 /// The first rule that the controller breaks.

@@ -10,13 +10,20 @@ use crate::{BadMachine, FieldPart, Part, RegionPart, Rule, Spot};
 use acpi_regs::GpeGeometry;
 use field_units::RegionKind;
 
+/// The number that the blocks of a description of this version may end at.
+fn most_gpes(version: u8) -> u16
+    ensures { result ≡ rules.most_gpes version }
+{
+    if version == 1 { 128 } else { 256 }
+}
+
 /// The blocks of these lengths, or the first rule that they break.
 #[tactic(auto, unfolding(crate::specs::Rules::gpe_fault))]
-pub fn geometry_of(gpe0: u16, base1: u16, gpe1: u16) -> Result<GpeGeometry, BadMachine>
+pub fn geometry_of(version: u8, gpe0: u16, base1: u16, gpe1: u16) -> Result<GpeGeometry, BadMachine>
     ensures { MatchResult result
         (λ g. (blocks_of g ≡ record { gpe0 = gpe0; base1 = base1; gpe1 = gpe1 })
-        × (rules.gpe_fault (record { gpe0 = gpe0; base1 = base1; gpe1 = gpe1 }) ≡ None))
-        (λ bad. rules.gpe_fault (record { gpe0 = gpe0; base1 = base1; gpe1 = gpe1 }) ≡ Some bad) }
+        × (rules.gpe_fault version (record { gpe0 = gpe0; base1 = base1; gpe1 = gpe1 }) ≡ None))
+        (λ bad. rules.gpe_fault version (record { gpe0 = gpe0; base1 = base1; gpe1 = gpe1 }) ≡ Some bad) }
 {
     let Ok(geometry) = GpeGeometry::new(gpe0, base1, gpe1) else {
         return Err(at_item(
@@ -28,7 +35,7 @@ pub fn geometry_of(gpe0: u16, base1: u16, gpe1: u16) -> Result<GpeGeometry, BadM
             },
         ));
     };
-    if geometry.end() > 128 {
+    if geometry.end() > most_gpes(version) {
         return Err(at_item(
             Part::Gpe,
             0,

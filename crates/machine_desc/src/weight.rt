@@ -45,7 +45,7 @@ fn firmware_cost(machine: &Machine) -> Cost
     ensures few_moves { result.moves ≤ 8 * 266240 }
 {
     machine.law_rules();
-    let fields = machine.fields();
+    let fields = machine.act_fields();
     let mut entries = 0;
     let mut moves = 0;
     for script in machine.firmware() {
@@ -65,7 +65,7 @@ fn event_cost(machine: &Machine, event: &ListedEvent) -> Cost
     ensures few_moves { result.moves ≤ 521840295936 }
 {
     let runs = runs_of(machine, event.listed.event);
-    let cost = script_cost(machine.fields(), event.script.ops());
+    let cost = script_cost(machine.act_fields(), event.script.ops());
     Cost {
         entries: product(runs, 3 + cost.entries),
         moves: product(runs, cost.moves),
@@ -77,8 +77,8 @@ fn event_cost(machine: &Machine, event: &ListedEvent) -> Cost
 fn events_cost(machine: &Machine) -> Cost
     ensures entries { result.entries ≡ weight.events_size machine.now }
     ensures moves { result.moves ≡ weight.events_moves machine.now }
-    ensures few_entries { result.entries ≤ 132 * 521840295936 }
-    ensures few_moves { result.moves ≤ 132 * 521840295936 }
+    ensures few_entries { result.entries ≤ 260 * 521840295936 }
+    ensures few_moves { result.moves ≤ 260 * 521840295936 }
 {
     machine.law_rules();
     let mut entries = 0;
@@ -101,7 +101,7 @@ fn query_cost(machine: &Machine, query: &Query) -> Cost
 {
     machine.law_rules();
     let runs = in_firmware(Tally::Code(query.code), machine.firmware());
-    let cost = script_cost(machine.fields(), query.script.ops());
+    let cost = script_cost(machine.act_fields(), query.script.ops());
     Cost {
         entries: product(runs, cost.entries),
         moves: product(runs, cost.moves),

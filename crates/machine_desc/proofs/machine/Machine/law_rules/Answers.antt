@@ -4,4 +4,4 @@ use Rattle.machine_desc.proofs.Ruled.{ruled}
 use Rattle.machine_desc.proofs.machine.Machine.law_rules.Goals as goal
 
 pub returns : goal.returns
-returns c = subst IsMachine c.self.view_is (ruled _ c.self.invariant)
+returns c = subst IsMachine c.self.view_is (ruled _ c.self.invariant.described)
