@@ -154,6 +154,7 @@ fn controller(
         event: controller.event,
         silent: controller.silent,
         fickle: controller.fickle,
+        glk: controller.glk,
         queries: parts(alloc, controller.queries.as_slice())?,
     }))
 }
@@ -178,12 +179,12 @@ fn parts_of(alloc: Global, machine: &Machine) -> Result<MachineParts, Memory>
     })
 }
 
-/// The parts of a machine, as its canonical text has them. They break no rule, and [`Machine::new`] makes an equal machine of
-/// them. No region's bytes end with a zero.
+/// The parts of a machine, as its canonical text has them. They break no rule, and [`Machine::new`] makes an equal
+/// machine of them. No region's bytes end with a zero.
 ///
 /// # Errors
 /// `Memory` if the allocator had no room for the parts.
-#[tactic(auto, using(crate::proofs::Given::parts_given, crate::proofs::Trimmed::told_kept, crate::proofs::Trimmed::told_same))]
+#[tactic(auto, using(crate::proofs::Given::parts_given, crate::proofs::Trimmed::told))]
 pub fn machine_parts(alloc: Global, machine: &Machine) -> Result<MachineParts, Memory>
     ensures same { IfOk result (λ p. p ≡ parts_of machine.now) }
     ensures given { IfOk result IsGiven }

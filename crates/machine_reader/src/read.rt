@@ -46,12 +46,12 @@ fn kept_of(alloc: Global, parts: MachineParts) -> Result<Machine, ReaderFault>
     }
 }
 
-/// The machine that a value describes, where the value stands at this path of a larger one. Its weight is not tested.
+/// The machine that a value describes, if the value is at this path of a larger one. Its weight is not tested.
 ///
 /// # Errors
-/// `BadShape` exactly if a value has not the form that a description has there, with the path of the first: the given path,
-/// a dot, and the path inside the value. Else `BadMachine` exactly if a rule of machines is broken, with the first.
-/// `Memory` if the allocator had no room.
+/// `BadShape` exactly if a value has not the form that a description has there, with the path of the first: the given
+/// path, a dot, and the path inside the value, or the given path alone if the value itself fails. Else `BadMachine`
+/// exactly if a rule of machines is broken, with the first. `Memory` if the allocator had no room.
 #[tactic(auto, unfolding(crate::specs::Description::found_at))]
 pub fn machine_at(alloc: Global, value: &Value, path: &[u8]) -> Result<Machine, ReaderFault>
     ensures { Finds (found_at path.now (view value.now)) result }
@@ -65,8 +65,8 @@ pub fn machine_at(alloc: Global, value: &Value, path: &[u8]) -> Result<Machine, 
 /// What the bytes hold, read by the form of its type.
 ///
 /// # Errors
-/// `NotJson` exactly if the bytes are no JSON text. Else `BadShape` exactly if a value has not its form, with the path of the
-/// first. `Memory` if the allocator had no room. If a name stands twice in an object, the last value counts. Names are
+/// `NotJson` exactly if the bytes are no JSON text. Else `BadShape` exactly if a value has not its form, with the path
+/// of the first. `Memory` if the allocator had no room. If an object has a name twice, the last value counts. Names are
 /// compared after JSON's escapes.
 pub fn read_shaped<T: Shaped>(alloc: Global, bytes: &[u8]) -> Result<T, ReaderFault>
     ensures reads { ReadsAs T.shape bytes.now result }
@@ -84,13 +84,13 @@ pub fn read_shaped<T: Shaped>(alloc: Global, bytes: &[u8]) -> Result<T, ReaderFa
     }
 }
 
-/// The machine that the bytes describe.
+/// The machine that the bytes describe, in version 1 or 2.
 ///
 /// # Errors
-/// `NotJson` exactly if the bytes are no JSON text. Else `BadShape` exactly if a value has not the form that a description has
-/// there, with the path of the first; else `BadMachine` exactly if a rule of machines is broken, with the first; else
-/// `TooLong` exactly if the machine's weight is above 1,048,576. `Memory` if the allocator had no room. If a name stands twice
-/// in an object, the last value counts. Names are compared after JSON's escapes.
+/// `NotJson` exactly if the bytes are no JSON text. Else `BadShape` exactly if a value has not the form that a
+/// description has there, with the path of the first; else `BadMachine` exactly if a rule of machines is broken, with
+/// the first; else `TooLong` exactly if the machine's weight is above 1,048,576. `Memory` if the allocator had no room.
+/// If an object has a name twice, the last value counts. Names are compared after JSON's escapes.
 #[tactic(auto, unfolding(crate::specs::Description::machine_in))]
 pub fn read_machine(alloc: Global, bytes: &[u8]) -> Result<Machine, ReaderFault>
     ensures { Describes bytes.now result }

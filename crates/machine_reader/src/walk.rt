@@ -1,9 +1,9 @@
-//! The walk of a description, depth first: objects, their members, arrays, and values that are tested as a whole. There is one
-//! function for each definition of `specs/Reading.antt`.
+//! The walk of a description, depth first: objects, their members, arrays, and values that are tested as a whole. There
+//! is one function for each definition of `specs/Reading.antt`.
 //!
-//! It is public for readers of other objects, which may hold a machine as a member. Give each part of such an object a type
-//! that is [`Shaped`]. Its `shape` is a definition in the words of `specs/Reading.antt`, and its `read` makes the same calls.
-//! Then [`crate::read_shaped`] reads the object from its bytes.
+//! It is public for readers of other objects, which may hold a machine as a member. Give each part of such an object a
+//! type that is [`Shaped`]. Define its `shape` in the words of `specs/Reading.antt`, and let its `read` make the same
+//! calls. Then [`crate::read_shaped`] reads the object from its bytes.
 ghost use Rattle.std.specs.Prelude.{◌≡◌, ◌==◌, All, IfOk, IfSome, false, is_some, map, decimal};
 ghost use Rattle.std.specs.List.{list_all};
 ghost use Rattle.std.specs.Option.{option_map_or};
@@ -20,8 +20,8 @@ use machine_desc::Items;
 use serde_json::Value;
 use std::alloc::Global;
 
-/// What a description is made of. `shape` is the form that a JSON value must have, and what is read of a value of that form.
-/// `Given` holds for whatever was read.
+/// What a description is made of. `shape` is the form that a JSON value must have, and what is read of a value of that
+/// form. `Given` holds for whatever was read.
 pub trait Shaped: Sized + Drop {
     ghost use Rattle.std.specs.Prelude.{ℕ, List, Result, IfOk};
     ghost use Rattle.serde_json.specs.Data.{Data};
@@ -35,8 +35,8 @@ pub trait Shaped: Sized + Drop {
     /// Reads a value of this form.
     ///
     /// # Errors
-    /// `BadShape` exactly if the value has not this form, with the path of the first value that fails: of this value, or of
-    /// one inside it. `Memory` if the allocator had no room for what was read, or for the path.
+    /// `BadShape` exactly if the value has not this form, with the path of the first value that fails: of this value,
+    /// or of one inside it. `Memory` if the allocator had no room for what was read, or for the path.
     fn read(alloc: Global, value: &Value) -> Result<Self, ShapeFault>
         ensures reads { Reads (λ x. x) (shape (view value.now)) result }
         ensures given { IfOk result Given };
@@ -110,11 +110,11 @@ pub fn has_names(names: &[&str], value: &Value) -> bool
     has_len(names.len(), value) && has_each_name(names, value)
 }
 
-/// The member of a name, which the object has.
+/// The member of a name.
 ///
 /// # Errors
-/// `BadShape` with the path of the first value that fails, which begins with the name. `Memory` if there was no room for what
-/// was read, or for the path.
+/// `BadShape` with the path of the first value that fails. The path is empty if there is no such member, and begins
+/// with the name otherwise. `Memory` if there was no room for what was read, or for the path.
 pub fn member<T: Shaped>(alloc: Global, name: &str, value: &Value) -> Result<T, ShapeFault>
     ensures reads { Reads (λ x. x) (reading.member_in name.now T.shape (view value.now)) result }
     ensures given { IfOk result T.Given }
@@ -146,8 +146,8 @@ fn each<T: Shaped>(alloc: Global, items: &[Value]) -> Result<Vec<T>, ShapeFault>
 /// The elements of an array, in order.
 ///
 /// # Errors
-/// `BadShape` with the empty path if the value is no array, else with the path of the first value that fails, which begins
-/// with its element's number. `Memory` if there was no room for what was read, or for the path.
+/// `BadShape` with the empty path if the value is no array, else with the path of the first value that fails, which
+/// begins with its element's number. `Memory` if there was no room for what was read, or for the path.
 pub fn list_of<T: Shaped>(alloc: Global, value: &Value) -> Result<Items<T>, ShapeFault>
     ensures reads { Reads (λ x. x) (reading.list_of T.shape (view value.now)) result }
     ensures given { IfOk result (All T.Given) }
