@@ -7,3 +7,4 @@ pub mod Order
 pub mod Partials
 pub mod Ruled
 pub mod Scripts
+pub mod Upgrading

@@ -8,4 +8,5 @@ pub mod Machine
 pub mod Rules
 pub mod Scripts
 pub mod Sound
+pub mod Upgrade
 pub mod Weight

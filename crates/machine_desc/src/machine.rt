@@ -7,6 +7,7 @@ ghost use Rattle.machine_desc.specs.Kept.{IsMachine};
 ghost use Rattle.machine_desc.specs.Machine.{act_fields, act_fields_of, acting, controller_of, described, glk, glk_in};
 ghost use Rattle.machine_desc.specs.Rules.{first_fault};
 ghost use Rattle.machine_desc.specs.Sound.{AreSound, AreSoundQueries};
+ghost use Rattle.machine_desc.specs.Upgrade.{up, up_controller};
 ghost use Rattle.machine_desc.specs.Weight.{weight_of};
 
 use crate::build::{acting_of, events_of, fields_of, queries_of, regions_of, scripts_of};
@@ -268,6 +269,20 @@ impl Machine {
         })
     }
 
+    /// The same machine in version 2, where its controller says by itself whether it needs the Global Lock. A machine of version 2 is
+    /// its own upgrade. Fails only if memory runs out.
+    pub fn upgraded(&self, alloc: Global) -> Result<Machine, Memory>
+        ensures { IfOk result (λ machine. machine ≡ up self.now) }
+    {
+        let copy = self.copied(alloc)?;
+        let controller = upgraded_controller(copy.version, copy.controller);
+        Ok(Machine {
+            version: 2,
+            controller,
+            ..copy
+        })
+    }
+
     /// Some parts describe the machine and break no rule. The call costs nothing: it says so to a caller's proof.
     pub fn law_described(&self)
         ensures { IsDescribed self.now }
@@ -301,6 +316,15 @@ fn controller_of(
         glk: part.glk,
         queries: queries_of(alloc, part.queries.into_vec())?,
     }))
+}
+
+/// The controller of a description of this version, as one of version 2 has it.
+fn upgraded_controller(version: u8, controller: Option<ControllerDesc>) -> Option<ControllerDesc>
+    ensures { result ≡ option_map (up_controller version) controller }
+{
+    let mut upgraded = controller?;
+    upgraded.glk = version == 1 || upgraded.glk;
+    Some(upgraded)
 }
 
 /// Whether the controller needs the Global Lock, in a description of this version.
