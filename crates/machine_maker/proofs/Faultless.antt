@@ -129,7 +129,7 @@ geometry = record { gpe0 = 32; base1 = 0; gpe1 = 0 }
 abbrev own : Option Event
 own = Some (event.Gpe 110)
 
-gpe_clean : gpe_fault geometry ≡ None
+gpe_clean : gpe_fault 1 geometry ≡ None
 unfolding gpe_fault
 gpe_clean = refl
 
@@ -145,7 +145,7 @@ fields_clean : fields_fault (memory ∷ []) (each_of 16 byte_field) ≡ None
 unfolding fields_fault each_of
 fields_clean = refl
 
-events_clean : events_fault geometry own 16 (each_of 8 quiet_event) ≡ None
+events_clean : events_fault 1 geometry own 16 (each_of 8 quiet_event) ≡ None
 unfolding events_fault each_of script_fault forbids
 events_clean = refl
 

@@ -1,5 +1,5 @@
 -- The parts of a machine that is made have the form of a description's.
-use Rattle.std.proofs.Common.{ℕ, ◌+◌, [], refl, arith}
+use Rattle.std.proofs.Common.{ℕ, inl, ◌+◌, [], refl, arith}
 use Rattle.machine_desc.specs.Given.{HasCode, HaveCodes, IsEventPart, IsGiven, IsQueryPart}
 use Rattle.machine_maker.specs.Maker.{code_handler, code_script, each_of, parts_of, quiet_event, script_of}
 use Rattle.machine_maker.proofs.Plain.{each_op}
@@ -19,7 +19,8 @@ script_formed number size k = all HasCode (script_of number size k) (each_op Has
 
 pub formed : (number size : ℕ) → IsGiven (parts_of number size)
 formed number size = record {
-  version = refl;
+  version = inl refl;
+  glk = λ one. refl;
   events = all IsEventPart (each_of 8 quiet_event) (each_row IsEventPart 8 quiet_event (λ n less. event_formed n));
   queries = all IsQueryPart (each_of 8 (λ k. code_handler (k + 1))) (each_row IsQueryPart 8 (λ k. code_handler (k + 1)) (λ k less. query_formed k));
   firmware = all HaveCodes (each_of 4 (script_of number size)) (each_row HaveCodes 4 (script_of number size) (λ k less. script_formed number size k));

@@ -14,15 +14,15 @@ use Rattle.handler_script.specs.declared.op.Op.TheVariants as op
 use Rattle.handler_script.specs.Left.{held_after}
 use Rattle.machine_desc.specs.declared.tally.Tally.{Tally}
 use Rattle.machine_desc.specs.declared.tally.Tally.TheVariants as tally
-use Rattle.machine_desc.specs.Machine.{MachineData, described, field_of, listed_of, query_of}
+use Rattle.machine_desc.specs.Machine.{MachineData, act_fields_of, described, field_of, listed_of, query_of}
 use Rattle.machine_desc.specs.Weight.{all_moves, calls_of, counted, event_moves, event_size, events_moves, events_size, firmware_moves, firmware_size, in_devices, in_firmware, in_script, one_if, op_moves, op_size, pushes, queries_asked, queries_moves, queries_size, query_moves, query_size, runs_of, script_moves, script_size, size_from, weight_of}
 use Rattle.machine_maker.specs.Maker.{IsLight, byte_field, code_handler, code_script, each_of, made, memory, parts_of, pulses_of, quiet_event, script_of}
 use Rattle.machine_maker.proofs.Plain.{each_op, pulses_len, script_len}
 use Rattle.machine_maker.proofs.Rows.{Each, mapped_sum, row_sum, sum_few, tested}
 
--- the fields, the scripts and the lists of the machine
+-- the fields with the lock rules that acts go by, the scripts and the lists of the machine
 abbrev fields : List Field
-fields = map (field_of (memory ∷ [])) (each_of 16 byte_field)
+fields = act_fields_of true (map (field_of (memory ∷ [])) (each_of 16 byte_field))
 
 abbrev firmware : (number size : ℕ) → List (List Op)
 firmware number size = each_of 4 (script_of number size)
@@ -45,11 +45,11 @@ record IsCheap (o : Op) : Type 0 where
   pushes : counted tally.Pushes o ≤ 1
 
 add_size : (f : ℕ) → f < 16 → op_size fields false (op.Add f 1) ≡ 10
-unfolding op_size each_of
+unfolding op_size each_of act_fields_of
 add_size f less = eqb-true (op_size fields false (op.Add f 1)) 10 (tested (λ k. op_size fields false (op.Add k 1) == 10) 0 16 f f refl less (omega arith))
 
 add_moves : (f : ℕ) → f < 16 → op_moves fields (op.Add f 1) ≡ 0
-unfolding op_moves each_of
+unfolding op_moves each_of act_fields_of
 add_moves f less = eqb-true (op_moves fields (op.Add f 1)) 0 (tested (λ k. op_moves fields (op.Add k 1) == 0) 0 16 f f refl less (omega arith))
 
 add_cheap : (f : ℕ) → f < 16 → IsCheap (op.Add f 1)
@@ -165,11 +165,11 @@ unfolding events_moves script_moves
 no_events_moves number size few = mapped_sum 0 8 (event_moves (machine number size)) listed_of quiet_event (λ k less. omega arith)
 
 code_size : (q : ℕ) → q < 16 → script_size fields (code_script q) ≡ 11
-unfolding script_size op_size each_of
+unfolding script_size op_size each_of act_fields_of
 code_size q less = eqb-true (script_size fields (code_script q)) 11 (tested (λ k. script_size fields (code_script k) == 11) 0 16 q q refl less (omega arith))
 
 code_moves : (q : ℕ) → q < 16 → script_moves fields (code_script q) ≡ 0
-unfolding script_moves op_moves each_of
+unfolding script_moves op_moves each_of act_fields_of
 code_moves q less = eqb-true (script_moves fields (code_script q)) 0 (tested (λ k. script_moves fields (code_script k) == 0) 0 16 q q refl less (omega arith))
 
 queries_size_few : (number size : ℕ) → size ≤ 64 → queries_size (machine number size) ≤ 360448

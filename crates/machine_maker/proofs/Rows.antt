@@ -68,3 +68,5 @@ pub mapped_sum : {A B : Type 0} (m n : ℕ) (g : B → ℕ) (to : A → B) (f : 
 mapped_sum m n g to f h =
     let len : length (map to (each_of n f)) ≡ n = length-map (each_of n f) to ∙ row_len n f in
     subst (λ k. sum_by g (map to (each_of n f)) ≤ k * m) len (sum_few m g (map to (each_of n f)) (each_mapped (λ y. g y ≤ m) to (each_of n f) (each_row (λ x. g (to x) ≤ m) n f h)))
+
+pub ruleset rows = (row_more, row_none)

@@ -42,13 +42,20 @@ code_script q = op.Add q 1 ∷ op.Notify q 128 ∷ []
 abbrev pub code_handler : ℕ → QueryPart
 code_handler q = record { code = q; script = code_script q }
 
--- GPE 6E, and handlers for the codes 1 to 8
+-- a controller on GPE 6E that needs the Global Lock, with handlers for the codes 1 to 8
 abbrev pub controller : ControllerPart
-controller = record { event = event.Gpe 110; silent = false; fickle = false; queries = each_of 8 (λ k. code_handler (k + 1)) }
+controller = record {
+  event = event.Gpe 110;
+  silent = false;
+  fickle = false;
+  glk = true;
+  queries = each_of 8 (λ k. code_handler (k + 1));
+}
 
 -- ---- the firmware
 
--- what a draw from 0 to 255 stands for: in the lower half 1 is added to one of 16 fields, in the upper one of 8 codes is pushed
+-- what a draw from 0 to 255 means: in the lower half 1 is added to one of 16 fields, in the upper one of 8 codes is
+-- pushed
 abbrev pub drawn : ℕ → Op
 drawn d = if nat_lt d 128 then op.Add (d % 16) 1 else op.Push (1 + d % 8)
 

@@ -9,13 +9,14 @@ use acpi_regs::Memory;
 use machine_desc::{Machine, MachineError};
 use std::alloc::Global;
 
-/// The machine of a number and of a size from 1 to 64. It has 16 fields of a byte each, which need the Global Lock, and 8
-/// edge events; a controller with handlers for the codes 1 to 8, each of which adds 1 to a field and notifies; four scripts
-/// of the firmware, of 16 operations for each step of the size, that add 1 to a field or push a code, as the number draws; and two
-/// devices that pulse the events in turn, 4 times for each step of the size. Its weight is at most 1,048,576.
+/// The machine of a number and of a size from 1 to 64, in version 1 of the description. It has 16 fields of a byte
+/// each, which need the Global Lock, and 8 edge events. Its controller has handlers for the codes 1 to 8, each of which
+/// adds 1 to a field and notifies. Four scripts of the firmware have 16 operations for each step of the size: each adds
+/// 1 to a field or pushes a code, as the number draws. Two devices pulse the events in turn, 4 times for each step of
+/// the size. The machine's weight is at most 1,048,576.
 ///
 /// # Errors
-/// Want of memory, and nothing else: such a machine breaks no rule ([`law_made`]).
+/// `Memory` if the allocator had no room, and nothing else: such a machine breaks no rule ([`law_made`]).
 pub fn make(alloc: Global, number: u32, size: u8) -> Result<Machine, Memory>
     requires some { 1 ≤ size }
     requires few { size ≤ 64 }

@@ -24,7 +24,7 @@ fn regions(alloc: Global) -> Result<Items<RegionPart>, Memory>
 }
 
 /// A field on each of the 16 cells.
-#[tactic(auto, using(crate::proofs::Rows::row_more, crate::proofs::Rows::row_none))]
+#[tactic(auto, using(crate::proofs::Rows::rows))]
 fn fields(alloc: Global) -> Result<Items<FieldPart>, Memory>
     ensures { IfOk result (λ fields. fields ≡ maker.each_of 16 maker.byte_field) }
 {
@@ -42,7 +42,7 @@ fn fields(alloc: Global) -> Result<Items<FieldPart>, Memory>
 }
 
 /// The first eight events, with handlers that do nothing.
-#[tactic(auto, using(crate::proofs::Rows::row_more, crate::proofs::Rows::row_none))]
+#[tactic(auto, using(crate::proofs::Rows::rows))]
 fn events(alloc: Global) -> Result<Items<EventPart>, Memory>
     ensures { IfOk result (λ events. events ≡ maker.each_of 8 maker.quiet_event) }
 {
@@ -71,8 +71,8 @@ fn code_handler(alloc: Global, code: u8) -> Result<QueryPart, Memory>
     })
 }
 
-/// The controller, on GPE 6E, with handlers for the codes 1 to 8.
-#[tactic(auto, using(crate::proofs::Rows::row_more, crate::proofs::Rows::row_none))]
+/// The controller, on GPE 6E, which needs the Global Lock, with handlers for the codes 1 to 8.
+#[tactic(auto, using(crate::proofs::Rows::rows))]
 fn controller(alloc: Global) -> Result<ControllerPart, Memory>
     ensures { IfOk result (λ controller. controller ≡ maker.controller) }
 {
@@ -84,11 +84,12 @@ fn controller(alloc: Global) -> Result<ControllerPart, Memory>
         event: Event::Gpe(0x6E),
         silent: false,
         fickle: false,
+        glk: true,
         queries: Items::new(queries),
     })
 }
 
-/// What a draw stands for.
+/// What a draw means.
 fn drawn(draw: u8) -> Op
     ensures { result ≡ maker.drawn draw }
 {
@@ -109,7 +110,7 @@ fn op_at(number: u32, i: u16) -> Op
 }
 
 /// Script `k` of the firmware.
-#[tactic(auto, using(crate::proofs::Rows::row_more, crate::proofs::Rows::row_none), unfolding(crate::specs::Maker::script_of))]
+#[tactic(auto, using(crate::proofs::Rows::rows), unfolding(crate::specs::Maker::script_of))]
 fn script(alloc: Global, number: u32, size: u8, k: u16) -> Result<Items<Op>, Memory>
     requires size { size ≤ 64 }
     requires place { k < 4 }
@@ -124,7 +125,7 @@ fn script(alloc: Global, number: u32, size: u8, k: u16) -> Result<Items<Op>, Mem
 }
 
 /// The four scripts of the firmware.
-#[tactic(auto, using(crate::proofs::Rows::row_more, crate::proofs::Rows::row_none))]
+#[tactic(auto, using(crate::proofs::Rows::rows))]
 fn firmware(alloc: Global, number: u32, size: u8) -> Result<Items<Items<Op>>, Memory>
     requires { size ≤ 64 }
     ensures { IfOk result (λ scripts. scripts ≡ maker.each_of 4 (maker.script_of number size)) }
@@ -137,7 +138,7 @@ fn firmware(alloc: Global, number: u32, size: u8) -> Result<Items<Items<Op>>, Me
 }
 
 /// The pulses of device `k`.
-#[tactic(auto, using(crate::proofs::Rows::row_more, crate::proofs::Rows::row_none), unfolding(crate::specs::Maker::pulses_of))]
+#[tactic(auto, using(crate::proofs::Rows::rows), unfolding(crate::specs::Maker::pulses_of))]
 fn pulses(alloc: Global, size: u8, k: u16) -> Result<Items<Event>, Memory>
     requires size { size ≤ 64 }
     requires place { k < 2 }
@@ -152,7 +153,7 @@ fn pulses(alloc: Global, size: u8, k: u16) -> Result<Items<Event>, Memory>
 }
 
 /// The lists of the two devices.
-#[tactic(auto, using(crate::proofs::Rows::row_more, crate::proofs::Rows::row_none))]
+#[tactic(auto, using(crate::proofs::Rows::rows))]
 fn devices(alloc: Global, size: u8) -> Result<Items<Items<Event>>, Memory>
     requires { size ≤ 64 }
     ensures { IfOk result (λ devices. devices ≡ maker.each_of 2 (maker.pulses_of size)) }
@@ -164,7 +165,7 @@ fn devices(alloc: Global, size: u8) -> Result<Items<Items<Event>>, Memory>
     Ok(Items::new(devices))
 }
 
-/// All parts of the machine of a number and a size.
+/// All parts of the machine of a number and a size, in version 1 of the description.
 pub fn machine_parts(alloc: Global, number: u32, size: u8) -> Result<MachineParts, Memory>
     requires { size ≤ 64 }
     ensures { IfOk result (λ parts. parts ≡ maker.parts_of number size) }

@@ -72,8 +72,9 @@ fn last_items_of_the_largest_machine(rt: HostRuntime) -> Result<(), Fail> {
 
 #[test]
 fn sizes_weigh_what_their_parts_come_to(rt: HostRuntime) -> Result<(), Fail> {
-    // At size 1 and number 0: 34 additions of 10 entries, 30 pushes; 8 pulses, which bring 8 runs of 3 entries; 30 starts and
-    // finishes of codes and their 11 entries each; 90 claims of the controller's event and 60 queries of 15 entries.
+    // At size 1 and number 0: 34 additions of 10 entries, 30 pushes; 8 pulses, which bring 8 runs of 3 entries; 30
+    // starts and finishes of codes and their 11 entries each; 90 claims of the controller's event and 60 queries of 15
+    // entries.
     let cases = [
         (0, 1, 1_782),
         (4_294_967_295, 1, 1_819),

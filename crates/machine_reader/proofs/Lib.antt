@@ -1,4 +1,4 @@
-pub mod Walk
+pub mod Elements
 pub mod Given
 pub mod Quotes
 pub mod Lists

@@ -1,5 +1,5 @@
 -- What is written for a machine is plain, and does not nest deep.
-use Rattle.std.proofs.Common.{◌≡◌, ℕ, ◌+◌, ◌/◌, ◌%◌, ◌<◌, ◌≤◌, ◌^◌, max, Bool, true, false, All, List, [], ◌∷◌, map, length, Option, Some, None, decimal, IsUtf8, lt-ltb, refl, rules, arith}
+use Rattle.std.proofs.Common.{◌≡◌, inl, inr, ◌==◌, if◌then◌else◌, ℕ, ◌+◌, ◌/◌, ◌%◌, ◌<◌, ◌≤◌, ◌^◌, max, Bool, true, false, All, List, [], ◌∷◌, map, length, Option, Some, None, decimal, IsUtf8, lt-ltb, refl, rules, arith}
 use Rattle.std.proofs.lemmas.Fmt.{IsAscii-decimal}
 use Rattle.std.proofs.lemmas.List.Elements.{All-head, All-tail}
 use Rattle.std.proofs.lemmas.Str.{IsUtf8-append, IsUtf8-from_ascii}
@@ -24,8 +24,9 @@ use Rattle.handler_script.specs.declared.op.Op.TheVariants as op
 use Rattle.machine_desc.specs.declared.machine.ControllerDesc.{ControllerDesc}
 use Rattle.machine_desc.specs.declared.machine.ListedEvent.{ListedEvent}
 use Rattle.machine_desc.specs.declared.machine.Query.{Query}
+use Rattle.machine_desc.specs.Given.{IsVersion}
 use Rattle.machine_desc.specs.Machine.{MachineData}
-use Rattle.machine_reader.specs.Canonical.{actor_json, actor_name, blocks_json, controller_json, description_json, event_json, event_name, field_json, fixed_name, kind_name, list_json, listed_json, listed_name, number_json, op_json, pulses_json, query_json, region_json, script_json, update_name, without_zeros}
+use Rattle.machine_reader.specs.Canonical.{actor_json, actor_name, blocks_json, controller_json, controller_one_json, controller_two_json, description_json, event_json, event_name, field_json, fixed_name, kind_name, list_json, listed_json, listed_name, number_json, op_json, pulses_json, query_json, region_json, script_json, update_name, without_zeros}
 use Rattle.machine_reader.specs.Ranges.{EventFits, RegionFits, FieldFits}
 use Rattle.machine_reader.proofs.Outlines.{IsPlain}
 use Rattle.machine_reader.proofs.ReadBack.{IsListedText, IsNamed, IsOp, IsQueryText, IsSomeControllerText, IsText, stay}
@@ -127,9 +128,13 @@ listed_plain e h = (refl, (ascii _ refl, (listed_utf8 e.listed.event e.listed.le
 query_plain : (q : Query) → IsQueryText q → IsPlain (query_json q)
 query_plain q h = (refl, (ascii _ refl, (spelled_utf8 81 q.code (omega arith) h.code, (ascii _ refl, (script_plain q.script h.script, tt)))))
 
-controller_plain : (c : Option ControllerDesc) → IsSomeControllerText c → IsPlain (controller_json c)
-controller_plain None h = tt
-controller_plain (Some c) h = (refl, (ascii _ refl, (event_utf8 c.event h.event, (ascii _ refl, (tt, (ascii _ refl, (plain-list IsQueryText query_json query_plain c.queries h.queries, (ascii _ refl, (tt, tt)))))))))
+controller_plain : (version : ℕ) (c : Option ControllerDesc) → IsSomeControllerText c → IsPlain (controller_json version c)
+controller_plain version None h = tt
+controller_plain version (Some c) h = by_version (version == 1)
+  where
+    by_version : (one : Bool) → IsPlain (if one then controller_one_json c else controller_two_json c)
+    by_version true = (refl, (ascii _ refl, (event_utf8 c.event h.event, (ascii _ refl, (tt, (ascii _ refl, (plain-list IsQueryText query_json query_plain c.queries h.queries, (ascii _ refl, (tt, tt)))))))))
+    by_version false = (refl, (ascii _ refl, (event_utf8 c.event h.event, (ascii _ refl, (tt, (ascii _ refl, (tt, (ascii _ refl, (plain-list IsQueryText query_json query_plain c.queries h.queries, (ascii _ refl, (tt, tt)))))))))))
 
 blocks_plain : (gpe0 base1 gpe1 : ℕ) → gpe0 ≤ 65535 → base1 ≤ 65535 → gpe1 ≤ 65535 → IsPlain (blocks_json gpe0 base1 gpe1)
 blocks_plain gpe0 base1 gpe1 h0 h1 h2 = (refl, (ascii _ refl, (half_plain base1 h1, (ascii _ refl, (half_plain gpe0 h0, (ascii _ refl, (half_plain gpe1 h2, tt)))))))
@@ -137,14 +142,18 @@ blocks_plain gpe0 base1 gpe1 h0 h1 h2 = (refl, (ascii _ refl, (half_plain base1 
 pulses_plain : (es : List Event) → All EventFits es → IsPlain (pulses_json es)
 pulses_plain es h = plain-list EventFits event_json event_utf8 es h
 
+small_version : (n : ℕ) → IsVersion n → n < 2 ^ 64
+small_version n (inl one) = omega (arith, one)
+small_version n (inr two) = omega (arith, two)
+
 pub plain : (m : MachineData) → IsText m → IsPlain (description_json m)
 plain m h =
-    let version : m.version < 2 ^ 64 = omega (arith, h.version) in (
+    let version : m.version < 2 ^ 64 = small_version m.version h.version in (
       refl,
       (
         ascii _ refl,
         (
-          controller_plain m.controller h.controller,
+          controller_plain m.version m.controller h.controller,
           (
             ascii _ refl,
             (
@@ -240,16 +249,20 @@ listed_deep e = let script = script_deep e.script in omega (arith, script)
 query_deep : (q : Query) → depth (query_json q) ≤ 3
 query_deep q = let script = script_deep q.script in omega (arith, script)
 
-controller_deep : (c : Option ControllerDesc) → depth (controller_json c) ≤ 5
-controller_deep None = omega arith
-controller_deep (Some c) = let queries = deep-list 3 query_json query_deep c.queries in omega (arith, queries)
+controller_deep : (version : ℕ) (c : Option ControllerDesc) → depth (controller_json version c) ≤ 5
+controller_deep version None = omega arith
+controller_deep version (Some c) = by_version (version == 1)
+  where
+    by_version : (one : Bool) → depth (if one then controller_one_json c else controller_two_json c) ≤ 5
+    by_version true = let queries = deep-list 3 query_json query_deep c.queries in omega (arith, queries)
+    by_version false = let queries = deep-list 3 query_json query_deep c.queries in omega (arith, queries)
 
 pulses_deep : (es : List Event) → depth (pulses_json es) ≤ 1
 pulses_deep es = deep-list 0 event_json (λ e. omega arith) es
 
 pub shallow : (m : MachineData) → depth (description_json m) ≤ max_depth
 shallow m =
-    let controller = controller_deep m.controller in
+    let controller = controller_deep m.version m.controller in
     let devices = deep-list 1 pulses_json pulses_deep m.devices in
     let events = deep-list 3 listed_json listed_deep m.events in
     let fields = deep-list 1 field_json field_deep m.fields in

@@ -1,5 +1,5 @@
 -- What is written for a machine is read as its parts.
-use Rattle.std.proofs.Common.{◌≡◌, ℕ, ◌+◌, ◌/◌, ◌<◌, ◌≤◌, Bool, true, false, ◌==◌, ◌&&◌, if◌then◌else◌, All, List, [], ◌∷◌, ◌++◌, length, get_or, map, take, Option, Some, None, option_map, Ok, codes, decimal, refl, sym, ap, ◌∙◌, subst, rules, arith}
+use Rattle.std.proofs.Common.{◌≡◌, inl, inr, ℕ, ◌+◌, ◌/◌, ◌<◌, ◌≤◌, Bool, true, false, ◌==◌, ◌&&◌, if◌then◌else◌, All, List, [], ◌∷◌, ◌++◌, length, get_or, map, take, Option, Some, None, option_map, Ok, codes, decimal, refl, sym, ap, ◌∙◌, subst, rules, arith}
 use Rattle.std.proofs.lemmas.Fmt.{decimal_digit}
 use Rattle.std.proofs.lemmas.List.{take_more}
 use Rattle.std.proofs.lemmas.List.Elements.{All-cons, All-head, All-push, All-tail}
@@ -30,7 +30,8 @@ use Rattle.machine_desc.specs.declared.parts.FieldPart.{FieldPart}
 use Rattle.machine_desc.specs.declared.parts.MachineParts.{MachineParts}
 use Rattle.machine_desc.specs.declared.parts.QueryPart.{QueryPart}
 use Rattle.machine_desc.specs.declared.parts.RegionPart.{RegionPart}
-use Rattle.machine_desc.specs.Given.{HasCode, HasLevel}
+use Rattle.machine_desc.specs.Given.{HasCode, HasLevel, IsVersion}
+use Rattle.machine_desc.specs.Kept.{KeepsGlk}
 use Rattle.machine_desc.specs.Machine.{MachineData}
 use Rattle.machine_reader.specs.declared.names.ListedName.{ListedName}
 use Rattle.machine_reader.specs.declared.names.QueryCode.{QueryCode}
@@ -40,7 +41,7 @@ use Rattle.machine_reader.specs.Canonical.{actor_json, blocks_json, controller_j
 use Rattle.machine_reader.specs.Parts.{controller_part, event_part, field_part, parts_of, query_part, region_part}
 use Rattle.machine_reader.specs.Ranges.{EventFits, OpFits, RegionFits, FieldFits}
 use Rattle.machine_reader.specs.Reading.{Reading, ◌>>=◌, each_from, list_of, under}
-use Rattle.machine_reader.proofs.Walk.{then_rest}
+use Rattle.machine_reader.proofs.Elements.{then_rest}
 use Rattle.machine_reader.specs.Shape.{actor_shape, blocks_shape, byte_shape, code, controller_shape, event, event_shape, field_shape, half_shape, kind_shape, listed_event_shape, listed_shape, number_up_to, op_shape, query_code_shape, query_shape, region_shape, script_shape, shape, truth_shape, update_shape, version_shape, word_shape}
 
 -- ---- lists
@@ -85,8 +86,9 @@ word-json n h = rw (up_to 4294967295 n h) refl
 truth-json : (b : Bool) → truth_shape (boolean b) ≡ Ok b
 truth-json b = refl
 
-version-json : (n : ℕ) → n ≡ 1 → version_shape (number_json n) ≡ Ok (record { number = n })
-version-json n one = subst (λ k. version_shape (number_json k) ≡ Ok (record { number = k })) (sym one) refl
+version-json : (n : ℕ) → IsVersion n → version_shape (number_json n) ≡ Ok (record { number = n })
+version-json n (inl one) = subst (λ k. version_shape (number_json k) ≡ Ok (record { number = k })) (sym one) refl
+version-json n (inr two) = subst (λ k. version_shape (number_json k) ≡ Ok (record { number = k })) (sym two) refl
 
 code-json : (q : ℕ) → 0 < q → q ≤ 255 → code (number_json q) ≡ Some q
 code-json q some h = rw (up_to 255 q h) (grind (arith, rules))
@@ -252,17 +254,45 @@ abbrev pub IsSomeControllerText : Option ControllerDesc → Type 0
 IsSomeControllerText None = Unit {0}
 IsSomeControllerText (Some c) = IsControllerText c
 
-abbrev controller_read : Reading Event → Reading Bool → Reading Bool → Reading (List QueryPart) → Reading (Option ControllerPart)
-controller_read event silent fickle queries = (event >>= λ e. silent >>= λ s. fickle >>= λ f. queries >>= λ q. Ok (record { event = e; silent = s; fickle = f; queries = q })) >>= λ c. Ok (Some c)
+-- a controller that needs the lock, with another word on that
+abbrev with_glk : ControllerDesc → Bool → Reading (Option ControllerPart)
+with_glk c glk = Ok (Some (record (controller_part c) { glk = glk }))
 
-controller-part-json : (c : Option ControllerDesc) → IsSomeControllerText c → controller_shape (controller_json c) ≡ Ok (option_map controller_part c)
-controller-part-json None h = refl
-controller-part-json (Some c) h =
+abbrev controller_one_read : Reading Event → Reading Bool → Reading Bool → Reading (List QueryPart) → Reading (Option ControllerPart)
+controller_one_read event silent fickle queries =
+    (event >>= λ e. silent >>= λ s. fickle >>= λ f. queries >>= λ q. Ok (record { event = e; silent = s; fickle = f; glk = true; queries = q })) >>= λ c. Ok (Some c)
+
+in_version_one : (c : Option ControllerDesc) → KeepsGlk 1 c → IsSomeControllerText c → controller_shape 1 (controller_json 1 c) ≡ Ok (option_map controller_part c)
+in_version_one None needs h = refl
+in_version_one (Some c) needs h =
     let e1 = ap (under (codes "event")) (event-shape c.event h.event) in
     let e2 = ap (under (codes "silent")) (truth-json c.silent) in
     let e3 = ap (under (codes "fickle")) (truth-json c.fickle) in
     let e4 = ap (under (codes "queries")) (list-json IsQueryText query_shape query_json query_part query-part-json c.queries h.queries) in
-    λ i. controller_read (e1 i) (e2 i) (e3 i) (e4 i)
+    let with_lock : controller_shape 1 (controller_json 1 (Some c)) ≡ with_glk c true = λ i. controller_one_read (e1 i) (e2 i) (e3 i) (e4 i) in
+    with_lock ∙ ap (with_glk c) (sym (needs refl))
+
+abbrev controller_two_read : Reading Event → Reading Bool → Reading Bool → Reading Bool → Reading (List QueryPart) → Reading (Option ControllerPart)
+controller_two_read event silent fickle glk queries =
+    (event >>= λ e. silent >>= λ s. fickle >>= λ f. glk >>= λ g. queries >>= λ q. Ok (record { event = e; silent = s; fickle = f; glk = g; queries = q })) >>= λ c. Ok (Some c)
+
+in_version_two : (c : Option ControllerDesc) → IsSomeControllerText c → controller_shape 2 (controller_json 2 c) ≡ Ok (option_map controller_part c)
+in_version_two None h = refl
+in_version_two (Some c) h =
+    let e1 = ap (under (codes "event")) (event-shape c.event h.event) in
+    let e2 = ap (under (codes "silent")) (truth-json c.silent) in
+    let e3 = ap (under (codes "fickle")) (truth-json c.fickle) in
+    let e4 = ap (under (codes "glk")) (truth-json c.glk) in
+    let e5 = ap (under (codes "queries")) (list-json IsQueryText query_shape query_json query_part query-part-json c.queries h.queries) in
+    λ i. controller_two_read (e1 i) (e2 i) (e3 i) (e4 i) (e5 i)
+
+-- a controller in a description of this version is read as its part
+abbrev ReadsController : Option ControllerDesc → ℕ → Type 0
+ReadsController c version = controller_shape version (controller_json version c) ≡ Ok (option_map controller_part c)
+
+controller-part-json : (version : ℕ) (c : Option ControllerDesc) → IsVersion version → KeepsGlk version c → IsSomeControllerText c → ReadsController c version
+controller-part-json version c (inl one) needs h = subst (ReadsController c) (sym one) (in_version_one c (subst (λ v. KeepsGlk v c) one needs) h)
+controller-part-json version c (inr two) needs h = subst (ReadsController c) (sym two) (in_version_two c h)
 
 abbrev blocks_read : Reading ℕ → Reading ℕ → Reading ℕ → Reading Blocks
 blocks_read gpe0 base1 gpe1 = gpe0 >>= λ a. base1 >>= λ b. gpe1 >>= λ c. Ok (record { gpe0 = a; base1 = b; gpe1 = c })
@@ -276,7 +306,8 @@ blocks-json gpe0 base1 gpe1 h0 h1 h2 =
 
 -- a machine whose text is read back
 pub record IsText (m : MachineData) : Type 0 where
-  pub version : m.version ≡ 1
+  pub version : IsVersion m.version
+  pub glk : KeepsGlk m.version m.controller
   pub gpe0 : m.gpe0 ≤ 65535
   pub base1 : m.base1 ≤ 65535
   pub gpe1 : m.gpe1 ≤ 65535
@@ -289,13 +320,20 @@ pub record IsText (m : MachineData) : Type 0 where
   pub devices : All (All EventFits) m.devices
   pub schedule : All IsNamed m.schedule
 
-abbrev description_read : Reading Version → Reading Blocks → Reading ℕ → Reading (List RegionPart) → Reading (List FieldPart) → Reading (List EventPart) → Reading (Option ControllerPart) → Reading (List (List Op)) → Reading (List (List Event)) → Reading (List Actor) → Reading MachineParts
+abbrev description_read : Reading Version → Reading Blocks → Reading ℕ → Reading (List RegionPart) → Reading (List FieldPart) → Reading (List EventPart) → (ℕ → Reading (Option ControllerPart)) → Reading (List (List Op)) → Reading (List (List Event)) → Reading (List Actor) → Reading MachineParts
 description_read version gpe workers regions fields events controller firmware devices schedule =
-    version >>= λ v. gpe >>= λ g. workers >>= λ w. regions >>= λ r. fields >>= λ f. events >>= λ e. controller >>= λ c. firmware >>= λ fs. devices >>= λ d. schedule >>= λ s.
+    version >>= λ v. gpe >>= λ g. workers >>= λ w. regions >>= λ r. fields >>= λ f. events >>= λ e. controller v.number >>= λ c. firmware >>= λ fs. devices >>= λ d. schedule >>= λ s.
     Ok (record { version = v.number; gpe0 = g.gpe0; base1 = g.base1; gpe1 = g.gpe1; workers = w; regions = r; fields = f; events = e; controller = c; firmware = fs; devices = d; schedule = s })
 
 pulses-json : (es : List Event) → All EventFits es → list_of event_shape (pulses_json es) ≡ Ok es
 pulses-json es h = same-list EventFits event_shape event_json event-shape es h
+
+-- the member of the controller, read by the form of a version; and the parts of a machine with the controller that was read
+abbrev controller_member : MachineData → ℕ → Reading (Option ControllerPart)
+controller_member m version = under (codes "controller") (controller_shape version (controller_json m.version m.controller))
+
+abbrev with_controller : MachineData → Option ControllerPart → Reading MachineParts
+with_controller m c = Ok (record (parts_of m) { controller = c })
 
 pub parts_read : (m : MachineData) → IsText m → shape (description_json m) ≡ Ok (parts_of m)
 parts_read m h =
@@ -305,8 +343,9 @@ parts_read m h =
     let e4 = ap (under (codes "regions")) (list-json _ region_shape region_json region_part region-json m.regions h.regions) in
     let e5 = ap (under (codes "fields")) (list-json FieldFits field_shape field_json field_part field-json m.fields h.fields) in
     let e6 = ap (under (codes "events")) (list-json IsListedText listed_event_shape listed_json event_part event-part-json m.events h.events) in
-    let e7 = ap (under (codes "controller")) (controller-part-json m.controller h.controller) in
+    let e7 = ap (under (codes "controller")) (controller-part-json m.version m.controller h.version h.glk h.controller) in
     let e8 = ap (under (codes "firmware")) (same-list (All IsOp) script_shape script_json script-json m.firmware h.firmware) in
     let e9 = ap (under (codes "devices")) (same-list (All EventFits) (list_of event_shape) pulses_json pulses-json m.devices h.devices) in
     let e10 = ap (under (codes "schedule")) (same-list IsNamed actor_shape actor_json actor-json m.schedule h.schedule) in
-    λ i. description_read (e1 i) (e2 i) (e3 i) (e4 i) (e5 i) (e6 i) (e7 i) (e8 i) (e9 i) (e10 i)
+    let others : shape (description_json m) ≡ (controller_member m m.version >>= with_controller m) = λ i. description_read (e1 i) (e2 i) (e3 i) (e4 i) (e5 i) (e6 i) (controller_member m) (e8 i) (e9 i) (e10 i) in
+    others ∙ ap (λ c. c >>= with_controller m) e7

@@ -49,6 +49,7 @@ named n (actor.Firmware k) w d f e = omega (arith, ltb-true k n.firmware e, f)
 is_text : (m : MachineData) → Fits m → IsMachine m → IsText m
 is_text m fits kept = record {
   version = kept.version;
+  glk = kept.glk;
   gpe0 = fits.gpe0;
   base1 = fits.base1;
   gpe1 = fits.gpe1;

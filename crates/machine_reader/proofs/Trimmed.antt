@@ -247,3 +247,5 @@ pub told_same : (m : MachineData) → IsDescribed m → described (parts_of m) �
 told_same m h =
     let told : parts_of m ≡ trimmed h.parts = ap parts_of (sym h.same) ∙ parts_back h.parts in
     ap described told ∙ (described_same h.parts (regions_of_kept h.parts h.kept) ∙ h.same)
+
+pub ruleset told = (told_kept, told_same)

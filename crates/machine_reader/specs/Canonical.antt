@@ -1,5 +1,5 @@
--- The canonical text of a machine: its description with the names in byte order and no space. It is the JSON text of a value,
--- member by member.
+-- The canonical text of a machine: its description with the names in byte order and no space. It is the JSON text of
+-- a value, member by member.
 use Rattle.std.specs.Prelude.{ℕ, ◌/◌, ◌%◌, ◌==◌, ◌&&◌, Bool, true, false, List, [], ◌∷◌, length, map, Option, Some, None, if◌then◌else◌, codes, decimal}
 use Rattle.serde_json.specs.Data.{Data, null, boolean, number, unsigned, string, array, object, no_members, member}
 use Rattle.serde_json.specs.View.{items_of}
@@ -130,13 +130,27 @@ query_json q = object
     (member (codes "name") (string (query_name q.code))
     (member (codes "script") (script_json q.script) no_members))
 
-abbrev pub controller_json : Option ControllerDesc → Data
-controller_json None = null
-controller_json (Some c) = object
+-- a controller in version 1, which has no name glk
+abbrev pub controller_one_json : ControllerDesc → Data
+controller_one_json c = object
     (member (codes "event") (event_json c.event)
     (member (codes "fickle") (boolean c.fickle)
     (member (codes "queries") (list_json (map query_json c.queries))
     (member (codes "silent") (boolean c.silent) no_members))))
+
+-- in version 2
+abbrev pub controller_two_json : ControllerDesc → Data
+controller_two_json c = object
+    (member (codes "event") (event_json c.event)
+    (member (codes "fickle") (boolean c.fickle)
+    (member (codes "glk") (boolean c.glk)
+    (member (codes "queries") (list_json (map query_json c.queries))
+    (member (codes "silent") (boolean c.silent) no_members)))))
+
+-- the controller or none, in a description of this version
+abbrev pub controller_json : ℕ → Option ControllerDesc → Data
+controller_json version None = null
+controller_json version (Some c) = if version == 1 then controller_one_json c else controller_two_json c
 
 abbrev pub blocks_json : ℕ → ℕ → ℕ → Data
 blocks_json gpe0 base1 gpe1 = object
@@ -151,7 +165,7 @@ pulses_json events = list_json (map event_json events)
 
 abbrev pub description_json : MachineData → Data
 description_json m = object
-    (member (codes "controller") (controller_json m.controller)
+    (member (codes "controller") (controller_json m.version m.controller)
     (member (codes "devices") (list_json (map pulses_json m.devices))
     (member (codes "events") (list_json (map listed_json m.events))
     (member (codes "fields") (list_json (map field_json m.fields))

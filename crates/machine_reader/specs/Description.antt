@@ -9,7 +9,7 @@ use Rattle.machine_desc.specs.Rules.{first_fault}
 use Rattle.machine_desc.specs.Weight.{weight_of}
 use Rattle.machine_reader.specs.declared.fault.ReaderFault.{ReaderFault}
 use Rattle.machine_reader.specs.declared.fault.ReaderFault.TheVariants as fault
-use Rattle.machine_reader.specs.Reading.{Reading}
+use Rattle.machine_reader.specs.Reading.{Reading, under}
 use Rattle.machine_reader.specs.Shape.{shape}
 
 -- the bytes are UTF-8, and the JSON text of this value
@@ -38,15 +38,36 @@ unless_misshapen (Err path) = Err (fault.BadShape path)
 unfoldable pub machine_in : Data → Result MachineData ReaderFault
 machine_in d = unless_misshapen (shape d)
 
--- What is answered for bytes: `NotJson` where they are the text of no value, and else what their value describes.
--- Want of memory is free.
+-- What is answered for bytes: `NotJson` if they are the text of no value, and else what their value describes.
+-- `Memory` may be answered in any case.
 abbrev pub Describes : List ℕ → Result MachineData ReaderFault → Type 0
 Describes bytes (Err fault.NotJson) = (d : Data) → IsJson bytes d → ⊥
 Describes bytes (Err fault.Memory) = Unit {0}
 Describes bytes answer = (d : Data) × IsJson bytes d × (machine_in d ≡ answer)
 
--- ---- for private clauses: the same for a value that was read
+-- What is answered for bytes that are to hold a value of this form: what is read of it, or where it fails. No rule of
+-- machines is tested. `Memory` may be answered in any case.
+abbrev pub ReadsAs : {A : Type 0} → (Data → Reading A) → List ℕ → Result A ReaderFault → Type 0
+ReadsAs form bytes (Ok x) = (d : Data) × IsJson bytes d × (form d ≡ Ok x)
+ReadsAs form bytes (Err (fault.BadShape path)) = (d : Data) × IsJson bytes d × (form d ≡ Err path)
+ReadsAs form bytes (Err fault.NotJson) = (d : Data) → IsJson bytes d → ⊥
+ReadsAs form bytes (Err fault.Memory) = Unit {0}
+ReadsAs form bytes (Err _) = ⊥
 
+-- the machine of parts, unless they break a rule; its weight is not tested
+abbrev pub kept_of : MachineParts → Option BadMachine → Result MachineData ReaderFault
+kept_of parts None = Ok (described parts)
+kept_of parts (Some bad) = Err (fault.BadMachine bad)
+
+abbrev pub of_parts : Reading MachineParts → Result MachineData ReaderFault
+of_parts (Ok parts) = kept_of parts (first_fault parts)
+of_parts (Err path) = Err (fault.BadShape path)
+
+-- the machine of a value at this path of a larger value: first its form, then the rules
+unfoldable pub found_at : List ℕ → Data → Result MachineData ReaderFault
+found_at path d = of_parts (under path (shape d))
+
+-- What is answered if this is found. `Memory` may be answered in any case.
 abbrev pub Finds : Result MachineData ReaderFault → Result MachineData ReaderFault → Type 0
 Finds found (Err fault.NotJson) = ⊥
 Finds found (Err fault.Memory) = Unit {0}

@@ -1,4 +1,4 @@
--- For private clauses: the parts that the canonical text of a machine tells.
+-- The parts that the canonical text of a machine has.
 use Rattle.std.specs.Prelude.{length, map, option_map}
 use Rattle.field_units.specs.Field.{Field, RegionData, is_lock}
 use Rattle.machine_desc.specs.declared.machine.ControllerDesc.{ControllerDesc}
@@ -26,7 +26,13 @@ abbrev pub query_part : Query → QueryPart
 query_part q = record { code = q.code; script = q.script }
 
 abbrev pub controller_part : ControllerDesc → ControllerPart
-controller_part c = record { event = c.event; silent = c.silent; fickle = c.fickle; queries = map query_part c.queries }
+controller_part c = record {
+  event = c.event;
+  silent = c.silent;
+  fickle = c.fickle;
+  glk = c.glk;
+  queries = map query_part c.queries;
+}
 
 abbrev pub parts_of : MachineData → MachineParts
 parts_of m = record {

@@ -39,7 +39,9 @@ whole (Some x) = Ok x
 
 -- the value is an object with exactly these names, which differ
 abbrev pub has_names : List (List ℕ) → Data → Bool
-has_names names d = option_map_or (λ members. members_len members == length names) (as_object d) false && list_all (λ name. is_some (get name d)) names
+has_names names d =
+    option_map_or (λ members. members_len members == length names) (as_object d) false
+    && list_all (λ name. is_some (get name d)) names
 
 -- first the object itself, which has exactly these names, and then its members
 abbrev pub object_of : {A : Type 0} → List (List ℕ) → (Data → Reading A) → Data → Reading A
@@ -61,7 +63,8 @@ each_from k part (item d ds) = do
 abbrev pub list_of : {A : Type 0} → (Data → Reading A) → Data → Reading (List A)
 list_of part d = option_map_or (each_from 0 part) (as_array d) fails_here
 
--- ---- for private clauses: a reader answers what is read, its value being seen by `plain`; want of memory is free
+-- ---- for private clauses: a reader answers what is read, its value being seen by `plain`. `Memory` may be answered in
+-- any case.
 
 -- the path of a fault is that of the value that fails
 abbrev pub Fails : {A : Type 0} → Reading A → ShapeFault → Type 0

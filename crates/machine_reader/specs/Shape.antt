@@ -1,5 +1,5 @@
 -- The form of a description: each object with its names, and its members in the order in which they are read.
-use Rattle.std.specs.Prelude.{◌≡◌, ℕ, ◌<◌, ◌==◌, Bool, false, List, [], ◌∷◌, Option, Some, None, is_some, nat_le, option_map, option_and_then, if◌then◌else◌, Ok, codes}
+use Rattle.std.specs.Prelude.{◌≡◌, ℕ, ◌<◌, ◌==◌, Bool, true, false, List, [], ◌∷◌, Option, Some, None, is_some, nat_le, option_map, option_and_then, if◌then◌else◌, Ok, codes}
 use Rattle.std.specs.Str.{bytes_eq}
 use Rattle.serde_json.specs.Data.{Data, Items, no_items, item}
 use Rattle.serde_json.specs.Find.{as_array, as_bool, as_null, as_number, as_str, as_u64}
@@ -18,7 +18,7 @@ use Rattle.machine_desc.specs.declared.parts.FieldPart.{FieldPart}
 use Rattle.machine_desc.specs.declared.parts.MachineParts.{MachineParts}
 use Rattle.machine_desc.specs.declared.parts.QueryPart.{QueryPart}
 use Rattle.machine_desc.specs.declared.parts.RegionPart.{RegionPart}
-use Rattle.machine_desc.specs.Given.{HasLevel}
+use Rattle.machine_desc.specs.Given.{HasGlk, HasLevel, HasQueries, IsVersion, is_version}
 use Rattle.machine_reader.specs.declared.names.ListedName.{ListedName}
 use Rattle.machine_reader.specs.declared.names.QueryCode.{QueryCode}
 use Rattle.machine_reader.specs.declared.parts.Blocks.{Blocks}
@@ -65,23 +65,30 @@ abbrev pub query_code : Data → Option QueryCode
 query_code d = option_and_then query_named (as_str d)
 
 abbrev pub kind_named : List ℕ → Option RegionKind
-kind_named text = if bytes_eq text (codes "memory") then Some kind.Memory else (if bytes_eq text (codes "controller") then Some kind.Controller else None)
+kind_named text =
+    if bytes_eq text (codes "memory") then Some kind.Memory
+    else (if bytes_eq text (codes "controller") then Some kind.Controller
+    else None)
 
 abbrev pub kind_in : Data → Option RegionKind
 kind_in d = option_and_then kind_named (as_str d)
 
 abbrev pub update_named : List ℕ → Option UpdateRule
-update_named text = if bytes_eq text (codes "preserve") then Some update.Preserve else (if bytes_eq text (codes "ones") then Some update.WriteAsOnes else (if bytes_eq text (codes "zeros") then Some update.WriteAsZeros else None))
+update_named text =
+    if bytes_eq text (codes "preserve") then Some update.Preserve
+    else (if bytes_eq text (codes "ones") then Some update.WriteAsOnes
+    else (if bytes_eq text (codes "zeros") then Some update.WriteAsZeros
+    else None))
 
 abbrev pub update_in : Data → Option UpdateRule
 update_in d = option_and_then update_named (as_str d)
 
--- the one version
-abbrev pub version_one : ℕ → Option Version
-version_one n = if n == 1 then Some (record { number = n }) else None
+-- version 1 or 2
+abbrev pub known_version : ℕ → Option Version
+known_version n = if is_version n then Some (record { number = n }) else None
 
 abbrev pub version : Data → Option Version
-version d = option_and_then version_one (byte d)
+version d = option_and_then known_version (byte d)
 
 -- ---- operations: an array of a name and its operands, tested as a whole
 
@@ -191,7 +198,8 @@ field_members d = do
   Ok (record { region = region; bit = bit; width = width; lock = lock; update = update })
 
 abbrev pub field_shape : Data → Reading FieldPart
-field_shape d = object_of (codes "region" ∷ codes "bit" ∷ codes "width" ∷ codes "lock" ∷ codes "update" ∷ []) field_members d
+field_shape d =
+    object_of (codes "region" ∷ codes "bit" ∷ codes "width" ∷ codes "lock" ∷ codes "update" ∷ []) field_members d
 
 -- an event with a handler (ACPI 6.5, section 5.6.4.1)
 abbrev pub event_members : Data → Reading EventPart
@@ -214,21 +222,41 @@ query_members d = do
 abbrev pub query_shape : Data → Reading QueryPart
 query_shape d = object_of (codes "name" ∷ codes "script" ∷ []) query_members d
 
--- an embedded controller (ACPI 6.5, chapter 12)
-abbrev pub controller_members : Data → Reading ControllerPart
-controller_members d = do
+-- An embedded controller (ACPI 6.5, chapter 12). In version 1 it has no name glk, and it needs the Global Lock.
+abbrev pub controller_one_members : Data → Reading ControllerPart
+controller_one_members d = do
   event ← member_in (codes "event") event_shape d
   silent ← member_in (codes "silent") truth_shape d
   fickle ← member_in (codes "fickle") truth_shape d
   queries ← member_in (codes "queries") (list_of query_shape) d
-  Ok (record { event = event; silent = silent; fickle = fickle; queries = queries })
+  Ok (record { event = event; silent = silent; fickle = fickle; glk = true; queries = queries })
 
-abbrev pub present_controller : Data → Reading ControllerPart
-present_controller d = object_of (codes "event" ∷ codes "silent" ∷ codes "fickle" ∷ codes "queries" ∷ []) controller_members d
+abbrev pub controller_one : Data → Reading ControllerPart
+controller_one d =
+    object_of (codes "event" ∷ codes "silent" ∷ codes "fickle" ∷ codes "queries" ∷ []) controller_one_members d
 
--- null, or a controller
-abbrev pub controller_shape : Data → Reading (Option ControllerPart)
-controller_shape d = if is_some (as_null d) then Ok None else (present_controller d >>= λ c. Ok (Some c))
+-- In version 2 it has the name glk: whether it needs the Global Lock (`_GLK`, ACPI 6.5, section 6.5.7).
+abbrev pub controller_two_members : Data → Reading ControllerPart
+controller_two_members d = do
+  event ← member_in (codes "event") event_shape d
+  silent ← member_in (codes "silent") truth_shape d
+  fickle ← member_in (codes "fickle") truth_shape d
+  glk ← member_in (codes "glk") truth_shape d
+  queries ← member_in (codes "queries") (list_of query_shape) d
+  Ok (record { event = event; silent = silent; fickle = fickle; glk = glk; queries = queries })
+
+abbrev pub controller_two : Data → Reading ControllerPart
+controller_two d =
+    object_of (codes "event" ∷ codes "silent" ∷ codes "fickle" ∷ codes "glk" ∷ codes "queries" ∷ [])
+    controller_two_members d
+
+-- null, or a controller of this form
+abbrev pub or_null : (Data → Reading ControllerPart) → Data → Reading (Option ControllerPart)
+or_null form d = if is_some (as_null d) then Ok None else (form d >>= λ c. Ok (Some c))
+
+-- the controller or none, in a description of this version
+abbrev pub controller_shape : ℕ → Data → Reading (Option ControllerPart)
+controller_shape version = if version == 1 then or_null controller_one else or_null controller_two
 
 -- the GPE blocks (ACPI 6.5, section 4.8.4.1)
 abbrev pub blocks_members : Data → Reading Blocks
@@ -243,7 +271,9 @@ blocks_shape d = object_of (codes "gpe0" ∷ codes "base1" ∷ codes "gpe1" ∷ 
 
 -- the description
 abbrev pub description_names : List (List ℕ)
-description_names = codes "version" ∷ codes "gpe" ∷ codes "workers" ∷ codes "regions" ∷ codes "fields" ∷ codes "events" ∷ codes "controller" ∷ codes "firmware" ∷ codes "devices" ∷ codes "schedule" ∷ []
+description_names =
+    codes "version" ∷ codes "gpe" ∷ codes "workers" ∷ codes "regions" ∷ codes "fields" ∷ codes "events"
+    ∷ codes "controller" ∷ codes "firmware" ∷ codes "devices" ∷ codes "schedule" ∷ []
 
 abbrev pub description_members : Data → Reading MachineParts
 description_members d = do
@@ -253,19 +283,37 @@ description_members d = do
   regions ← member_in (codes "regions") (list_of region_shape) d
   fields ← member_in (codes "fields") (list_of field_shape) d
   events ← member_in (codes "events") (list_of listed_event_shape) d
-  controller ← member_in (codes "controller") controller_shape d
+  controller ← member_in (codes "controller") (controller_shape version.number) d
   firmware ← member_in (codes "firmware") (list_of script_shape) d
   devices ← member_in (codes "devices") (list_of (list_of event_shape)) d
   schedule ← member_in (codes "schedule") (list_of actor_shape) d
-  Ok (record { version = version.number; gpe0 = gpe.gpe0; base1 = gpe.base1; gpe1 = gpe.gpe1; workers = workers; regions = regions; fields = fields; events = events; controller = controller; firmware = firmware; devices = devices; schedule = schedule })
+  Ok (record {
+    version = version.number;
+    gpe0 = gpe.gpe0;
+    base1 = gpe.base1;
+    gpe1 = gpe.gpe1;
+    workers = workers;
+    regions = regions;
+    fields = fields;
+    events = events;
+    controller = controller;
+    firmware = firmware;
+    devices = devices;
+    schedule = schedule;
+  })
 
 abbrev pub shape : Data → Reading MachineParts
 shape d = object_of description_names description_members d
 
 -- ---- what each value that is read is, for private clauses
 
-abbrev pub IsVersion : Version → Type 0
-IsVersion v = v.number ≡ 1
+abbrev pub IsKnown : Version → Type 0
+IsKnown v = IsVersion v.number
+
+-- a controller, or none, as a description of this version may have it
+pub record IsController (version : ℕ) (c : Option ControllerPart) : Type 0 where
+  pub queries : HasQueries c
+  pub glk : HasGlk version c
 
 abbrev pub IsListedName : ListedName → Type 0
 IsListedName l = (is_gbl l.event ≡ false) × HasLevel l.event l.level

@@ -1,4 +1,4 @@
-//! Texts and numbers that are written behind others.
+//! Texts and numbers that are written after others.
 ghost use Rattle.std.specs.Prelude.{◌≡◌, [], ◌∷◌, ◌++◌, OnOk, decimal};
 
 use itoa::Buffer;

@@ -2,14 +2,13 @@ use crate::PathText;
 use crate::path::ShapeFault;
 use machine_desc::{BadMachine, MachineError};
 
-/// Why bytes were not read as a machine. The causes are tested in the order told here.
+/// Why bytes were not read as a machine. The causes are tested in this order.
 #[derive(Debug, Drop, PartialEq)]
 pub enum ReaderFault {
     /// The bytes are no JSON text: not UTF-8, not of JSON's grammar, or nested deeper than 127.
     NotJson,
-    /// The value at this path has not the form that a description has there. It is the first such value, where an object or
-    /// an array comes before what is in it, members come in the order in which the description lists them, and elements
-    /// in their own.
+    /// The value at this path has not the form that a description has there. It is the first such value: an object or
+    /// an array comes before what is in it, members come in the order of `specs/Shape.antt`, and elements in their own.
     BadShape(PathText),
     /// A rule of machines is broken: the first, as `machine_desc` orders them.
     BadMachine(BadMachine),

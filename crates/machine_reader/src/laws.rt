@@ -9,8 +9,9 @@ use crate::{PathText, ReaderFault};
 use machine_desc::Machine;
 use machine_desc::laws::law_equality;
 
-/// What [`crate::write_machine`] gives for a machine is read as an equal machine, wherever its weight is at most 1,048,576:
-/// [`crate::read_machine`] gives no other answer, but for want of memory. Above that weight it answers `TooLong`.
+/// What [`crate::write_machine`] gives for a machine is read as an equal machine if its weight is at most 1,048,576:
+/// [`crate::read_machine`] gives no other answer, unless memory runs out. Above that weight it answers `TooLong`.
+/// The law is for both versions of a description.
 pub fn law_read_back(machine: &Machine)
     ensures json { IsJson (canonical machine.now) (description_json machine.now) }
     ensures machine { machine_in (description_json machine.now) ≡ unless_long machine.now }
@@ -33,14 +34,14 @@ pub fn law_one_text(one: &Machine, other: &Machine)
     other.law_described();
 }
 
-/// Two paths are `==` exactly where they are the same.
+/// Two paths are `==` exactly if they are the same.
 pub fn law_paths_equal(one: &PathText, other: &PathText) -> bool
     ensures { IsTrue result ↔ (one.now ≡ other.now) }
 {
     one == other
 }
 
-/// Two faults are `==` exactly where they are the same.
+/// Two faults are `==` exactly if they are the same.
 pub fn law_faults_equal(one: &ReaderFault, other: &ReaderFault) -> bool
     ensures { IsTrue result ↔ (one.now ≡ other.now) }
 {

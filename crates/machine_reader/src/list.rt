@@ -7,7 +7,7 @@ use crate::bytes::{put, put_byte, put_number};
 use machine_desc::Items;
 use std::alloc::AllocError;
 
-/// What has a JSON text: it is written behind others.
+/// What has a JSON text, which is written after others.
 pub trait Written {
     ghost use Rattle.std.specs.Prelude.{◌≡◌, ◌++◌, OnOk};
     ghost use Rattle.serde_json.specs.Data.{Data};
@@ -19,7 +19,7 @@ pub trait Written {
         ensures { OnOk result (out.new.items ≡ out.old.items ++ json_text (json self.now)) };
 }
 
-/// The elements of a list behind the first, each after a comma, and the bracket.
+/// The elements of a list after the first, each after a comma, and the bracket.
 fn put_rest<T: Written>(out: &mut Vec<u8>, parts: &[T]) -> Result<(), AllocError>
     ensures { OnOk result (out.new.items ≡ out.old.items ++ rest_text (map T.json parts.now)) }
 {

@@ -16,7 +16,7 @@ use machine_desc::{ControllerDesc, Items, ListedEvent, Machine, Query};
 use std::alloc::AllocError;
 
 /// The bytes without the zeros at their end.
-fn without_zeros(cells: &[u8]) -> &[u8]
+pub fn without_zeros(cells: &[u8]) -> &[u8]
     ensures { result.now ≡ without_zeros cells.now }
 {
     let mut bytes = cells;
@@ -149,9 +149,22 @@ fn fickle_text(fickle: bool) -> &'static [u8]
     ensures { result.now ≡ texts.fickle_text fickle }
 {
     if fickle {
-        b",\"fickle\":true,\"queries\":"
+        b",\"fickle\":true"
     } else {
-        b",\"fickle\":false,\"queries\":"
+        b",\"fickle\":false"
+    }
+}
+
+/// `glk` in a description of this version, and the name of the queries.
+fn glk_text(version: u8, glk: bool) -> &'static [u8]
+    ensures { result.now ≡ texts.glk_text version glk }
+{
+    if version == 1 {
+        b",\"queries\":"
+    } else if glk {
+        b",\"glk\":true,\"queries\":"
+    } else {
+        b",\"glk\":false,\"queries\":"
     }
 }
 
@@ -165,24 +178,33 @@ fn silent_text(silent: bool) -> &'static [u8]
     }
 }
 
-fn put_present_controller(out: &mut Vec<u8>, controller: &ControllerDesc) -> Result<(), AllocError>
-    ensures { OnOk result (out.new.items ≡ out.old.items ++ texts.controller_text controller.now) }
+fn put_present_controller(
+    out: &mut Vec<u8>,
+    version: u8,
+    controller: &ControllerDesc,
+) -> Result<(), AllocError>
+    ensures { OnOk result (out.new.items ≡ out.old.items ++ texts.controller_text version controller.now) }
 {
     put(out, b"{\"event\":")?;
     controller.event.put(out)?;
     put(out, fickle_text(controller.fickle))?;
+    put(out, glk_text(version, controller.glk))?;
     put_list(out, controller.queries.as_slice())?;
     put(out, silent_text(controller.silent))
 }
 
-/// The controller, or null.
+/// The controller or null, in a description of this version.
 #[tactic(auto, using(crate::proofs::Pieces::controller_texts))]
-fn put_controller(out: &mut Vec<u8>, controller: Option<&ControllerDesc>) -> Result<(), AllocError>
+fn put_controller(
+    out: &mut Vec<u8>,
+    version: u8,
+    controller: Option<&ControllerDesc>,
+) -> Result<(), AllocError>
     ensures { OnOk result (out.new.items
-        ≡ out.old.items ++ json_text (controller_json (option_copied controller.entry))) }
+        ≡ out.old.items ++ json_text (controller_json version (option_copied controller.entry))) }
 {
     match controller {
-        Some(controller) => put_present_controller(out, controller),
+        Some(controller) => put_present_controller(out, version, controller),
         None => put(out, b"null"),
     }
 }
@@ -210,16 +232,17 @@ fn put_blocks(out: &mut Vec<u8>, gpe0: u16, base1: u16, gpe1: u16) -> Result<(),
 /// The members up to the fields.
 fn put_first_members(
     out: &mut Vec<u8>,
+    version: u8,
     controller: Option<&ControllerDesc>,
     devices: &[Items<Event>],
     events: &[ListedEvent],
     fields: &[FieldUnit],
 ) -> Result<(), AllocError>
     ensures { OnOk result (out.new.items ≡ out.old.items
-        ++ texts.first_text (option_copied controller.entry) devices.now events.now fields.now) }
+        ++ texts.first_text version (option_copied controller.entry) devices.now events.now fields.now) }
 {
     put(out, b"{\"controller\":")?;
-    put_controller(out, controller)?;
+    put_controller(out, version, controller)?;
     put(out, b",\"devices\":")?;
     put_list(out, devices)?;
     put(out, b",\"events\":")?;
@@ -270,6 +293,7 @@ pub fn put_description(out: &mut Vec<u8>, machine: &Machine) -> Result<(), Alloc
 {
     put_first_members(
         out,
+        machine.version(),
         machine.controller(),
         machine.devices(),
         machine.events(),

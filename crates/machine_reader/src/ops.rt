@@ -103,7 +103,7 @@ fn op_with_two(name: &str, x: &Value, y: &Value) -> Option<Op>
 }
 
 /// The operation of a name with these operands.
-#[tactic(auto, using(crate::proofs::Walk::op_named_more))]
+#[tactic(auto, using(crate::proofs::Elements::op_named_more))]
 fn op_named(name: &str, operands: &[Value]) -> Option<Op>
     ensures value { result ≡ shape.op_named name.now (items_view operands.now) }
     ensures given { IfSome result HasCode }

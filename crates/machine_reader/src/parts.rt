@@ -1,16 +1,18 @@
 //! The parts of a description in a JSON value: one function for each definition of `specs/Shape.antt`.
-ghost use Rattle.std.specs.Prelude.{◌≡◌, All, IfOk};
+ghost use Rattle.std.specs.Prelude.{◌≡◌, All, IfOk, codes, true};
 ghost use Rattle.serde_json.specs.View.{view};
 ghost use Rattle.machine_desc.specs.Given.{IsEventPart, IsGiven, IsQueryPart};
-ghost use Rattle.machine_reader.specs.Reading.{Reads};
+ghost use Rattle.machine_reader.specs.Reading.{Reads, member_in};
 ghost use Rattle.machine_reader.specs.Shape as shape;
+ghost use Rattle.machine_reader.specs.Shape.{IsController};
 
 use crate::names::{ListedName, QueryCode};
 use crate::path::ShapeFault;
-use crate::values::{Shaped, has_names, member};
+use crate::walk::{Shaped, has_names, member};
 use machine_desc::{ControllerPart, EventPart, FieldPart, MachineParts, QueryPart, RegionPart};
 use serde_json::Value;
 use std::alloc::Global;
+use std::marker::Model;
 
 /// The GPE blocks of a description.
 #[derive(Clone, Copy, Debug, PartialEq, Eq)]
@@ -26,7 +28,7 @@ pub struct Blocks {
 /// The version of a description.
 #[derive(Clone, Copy, Debug, PartialEq, Eq)]
 pub struct Version {
-    /// Its number, which is 1.
+    /// Its number, 1 or 2.
     pub number: u8,
 }
 
@@ -169,9 +171,25 @@ impl Shaped for QueryPart {
     }
 }
 
-fn controller_members(alloc: Global, value: &Value) -> Result<ControllerPart, ShapeFault>
-    ensures reads { Reads (λ x. x) (shape.controller_members (view value.now)) result }
-    ensures given { IfOk result (λ c. All IsQueryPart c.queries) }
+/// The controller of a description of version 1, or none. Contracts see it as such.
+#[derive(Debug, Drop)]
+struct ControllerOne {
+    controller: Option<ControllerPart>,
+}
+
+impl Model for ControllerOne {
+    ghost use Rattle.std.specs.Prelude.{Option};
+    ghost use Rattle.machine_desc.specs.declared.parts.ControllerPart.{ControllerPart};
+
+    ghost Value = { Option ControllerPart };
+
+    ghost view = { λ c. c.controller };
+}
+
+fn controller_one_members(alloc: Global, value: &Value) -> Result<ControllerPart, ShapeFault>
+    ensures reads { Reads (λ x. x) (shape.controller_one_members (view value.now)) result }
+    ensures queries { IfOk result (λ c. All IsQueryPart c.queries) }
+    ensures glk { IfOk result (λ c. c.glk ≡ true) }
 {
     let event = member(alloc, "event", value)?;
     let silent = member(alloc, "silent", value)?;
@@ -181,33 +199,117 @@ fn controller_members(alloc: Global, value: &Value) -> Result<ControllerPart, Sh
         event,
         silent,
         fickle,
+        glk: true,
         queries,
     })
 }
 
-fn present_controller(alloc: Global, value: &Value) -> Result<ControllerPart, ShapeFault>
-    ensures reads { Reads (λ x. x) (shape.present_controller (view value.now)) result }
-    ensures given { IfOk result (λ c. All IsQueryPart c.queries) }
+fn controller_one(alloc: Global, value: &Value) -> Result<ControllerPart, ShapeFault>
+    ensures reads { Reads (λ x. x) (shape.controller_one (view value.now)) result }
+    ensures queries { IfOk result (λ c. All IsQueryPart c.queries) }
+    ensures glk { IfOk result (λ c. c.glk ≡ true) }
 {
     if !has_names(&["event", "silent", "fickle", "queries"], value) {
         return Err(ShapeFault::here(alloc));
     }
-    controller_members(alloc, value)
+    controller_one_members(alloc, value)
 }
 
-impl Shaped for Option<ControllerPart> {
-    ghost use Rattle.machine_desc.specs.Given.{HasQueries};
-    ghost use Rattle.machine_reader.specs.Shape.{controller_shape};
+impl Shaped for ControllerOne {
+    ghost use Rattle.machine_reader.specs.Shape.{IsController, controller_one, or_null};
 
-    ghost shape = { controller_shape };
+    ghost shape = { or_null controller_one };
+
+    ghost Given = { IsController 1 };
+
+    fn read(alloc: Global, value: &Value) -> Result<Self, ShapeFault> {
+        if value.is_null() {
+            return Ok(ControllerOne { controller: None });
+        }
+        let controller = Some(controller_one(alloc, value)?);
+        Ok(ControllerOne { controller })
+    }
+}
+
+/// The controller of a description of version 2, or none. Contracts see it as such.
+#[derive(Debug, Drop)]
+struct ControllerTwo {
+    controller: Option<ControllerPart>,
+}
+
+impl Model for ControllerTwo {
+    ghost use Rattle.std.specs.Prelude.{Option};
+    ghost use Rattle.machine_desc.specs.declared.parts.ControllerPart.{ControllerPart};
+
+    ghost Value = { Option ControllerPart };
+
+    ghost view = { λ c. c.controller };
+}
+
+fn controller_two_members(alloc: Global, value: &Value) -> Result<ControllerPart, ShapeFault>
+    ensures reads { Reads (λ x. x) (shape.controller_two_members (view value.now)) result }
+    ensures queries { IfOk result (λ c. All IsQueryPart c.queries) }
+{
+    let event = member(alloc, "event", value)?;
+    let silent = member(alloc, "silent", value)?;
+    let fickle = member(alloc, "fickle", value)?;
+    let glk = member(alloc, "glk", value)?;
+    let queries = member(alloc, "queries", value)?;
+    Ok(ControllerPart {
+        event,
+        silent,
+        fickle,
+        glk,
+        queries,
+    })
+}
+
+fn controller_two(alloc: Global, value: &Value) -> Result<ControllerPart, ShapeFault>
+    ensures reads { Reads (λ x. x) (shape.controller_two (view value.now)) result }
+    ensures queries { IfOk result (λ c. All IsQueryPart c.queries) }
+{
+    if !has_names(&["event", "silent", "fickle", "glk", "queries"], value) {
+        return Err(ShapeFault::here(alloc));
+    }
+    controller_two_members(alloc, value)
+}
+
+impl Shaped for ControllerTwo {
+    ghost use Rattle.machine_desc.specs.Given.{HasQueries};
+    ghost use Rattle.machine_reader.specs.Shape.{controller_two, or_null};
+
+    ghost shape = { or_null controller_two };
 
     ghost Given = { HasQueries };
 
     fn read(alloc: Global, value: &Value) -> Result<Self, ShapeFault> {
         if value.is_null() {
-            return Ok(None);
+            return Ok(ControllerTwo { controller: None });
         }
-        Ok(Some(present_controller(alloc, value)?))
+        let controller = Some(controller_two(alloc, value)?);
+        Ok(ControllerTwo { controller })
+    }
+}
+
+/// The controller or none, of a description of this version.
+fn controller_in(
+    alloc: Global,
+    version: u8,
+    value: &Value,
+) -> Result<Option<ControllerPart>, ShapeFault>
+    ensures reads { Reads (λ x. x)
+        (member_in (codes "controller") (shape.controller_shape version) (view value.now)) result }
+    ensures given { IfOk result (IsController version) }
+{
+    if version == 1 {
+        return match member::<ControllerOne>(alloc, "controller", value) {
+            Ok(one) => Ok(one.controller),
+            Err(fault) => Err(fault),
+        };
+    }
+    match member::<ControllerTwo>(alloc, "controller", value) {
+        Ok(two) => Ok(two.controller),
+        Err(fault) => Err(fault),
     }
 }
 
@@ -221,7 +323,7 @@ fn description_members(alloc: Global, value: &Value) -> Result<MachineParts, Sha
     let regions = member(alloc, "regions", value)?;
     let fields = member(alloc, "fields", value)?;
     let events = member(alloc, "events", value)?;
-    let controller = member(alloc, "controller", value)?;
+    let controller = controller_in(alloc, version.number, value)?;
     let firmware = member(alloc, "firmware", value)?;
     let devices = member(alloc, "devices", value)?;
     let schedule = member(alloc, "schedule", value)?;
@@ -255,13 +357,18 @@ const NAMES: [&str; 10] = [
     "schedule",
 ];
 
-/// The parts of a description.
-pub fn parts_in(alloc: Global, value: &Value) -> Result<MachineParts, ShapeFault>
-    ensures reads { Reads (λ x. x) (shape.shape (view value.now)) result }
-    ensures given { IfOk result IsGiven }
-{
-    if !has_names(&NAMES, value) {
-        return Err(ShapeFault::here(alloc));
+impl Shaped for MachineParts {
+    ghost use Rattle.machine_desc.specs.Given.{IsGiven};
+    ghost use Rattle.machine_reader.specs.Shape.{shape};
+
+    ghost shape = { shape };
+
+    ghost Given = { IsGiven };
+
+    fn read(alloc: Global, value: &Value) -> Result<Self, ShapeFault> {
+        if !has_names(&NAMES, value) {
+            return Err(ShapeFault::here(alloc));
+        }
+        description_members(alloc, value)
     }
-    description_members(alloc, value)
 }

@@ -1,5 +1,5 @@
-//! What the types of a machine say of its numbers, for the proofs of the laws. These functions do nothing else, and only the
-//! laws call them.
+//! What the types of a machine say of its numbers, for the proofs of the laws. These functions do nothing else, and
+//! only the laws call them.
 ghost use Rattle.std.specs.Prelude.{All};
 ghost use Rattle.std.specs.Option.{option_copied};
 ghost use Rattle.machine_reader.specs.Ranges.{Fits, RegionFits, SomeControllerFits};

@@ -2,13 +2,13 @@
 ghost use Rattle.std.specs.Prelude.{◌≡◌, IfSome};
 ghost use Rattle.serde_json.specs.View.{view};
 ghost use Rattle.machine_reader.specs.Shape as shape;
-ghost use Rattle.machine_reader.specs.Shape.{IsListedName, IsQueryCode, IsVersion};
+ghost use Rattle.machine_reader.specs.Shape.{IsKnown, IsListedName, IsQueryCode};
 
 use crate::names::{ListedName, QueryCode, actor_named, listed_named, query_named};
 use crate::ops::{byte, event, half, number_up_to, op_in};
 use crate::parts::Version;
 use crate::path::ShapeFault;
-use crate::values::{Shaped, whole};
+use crate::walk::{Shaped, whole};
 use acpi_regs::{Actor, Event};
 use field_units::{RegionKind, UpdateRule};
 use handler_script::Op;
@@ -82,10 +82,11 @@ fn update_in(value: &Value) -> Option<UpdateRule>
 
 fn version(value: &Value) -> Option<Version>
     ensures value { result ≡ shape.version (view value.now) }
-    ensures given { IfSome result IsVersion }
+    ensures given { IfSome result IsKnown }
 {
     match byte(value)? {
         1 => Some(Version { number: 1 }),
+        2 => Some(Version { number: 2 }),
         _ => None,
     }
 }
@@ -187,11 +188,11 @@ impl Shaped for UpdateRule {
 }
 
 impl Shaped for Version {
-    ghost use Rattle.machine_reader.specs.Shape.{IsVersion, version_shape};
+    ghost use Rattle.machine_reader.specs.Shape.{IsKnown, version_shape};
 
     ghost shape = { version_shape };
 
-    ghost Given = { IsVersion };
+    ghost Given = { IsKnown };
 
     fn read(alloc: Global, value: &Value) -> Result<Self, ShapeFault> {
         whole(alloc, version(value))

@@ -6,11 +6,11 @@ use acpi_regs::Memory;
 use machine_desc::Machine;
 use std::alloc::Global;
 
-/// The canonical text of a machine: its description as JSON, with the names in byte order, no space, and no zeros at the end
-/// of a region's bytes.
+/// The canonical text of a machine: its description as JSON, in the machine's version, with the names in byte order, no
+/// space, and no zeros at the end of a region's bytes.
 ///
 /// # Errors
-/// `Memory` where room for the text was wanting.
+/// `Memory` if the allocator had no room for the text.
 pub fn write_machine(alloc: Global, machine: &Machine) -> Result<Vec<u8>, Memory>
     ensures { IfOk result (λ text. text.items ≡ canonical machine.now) }
 {

@@ -9,7 +9,7 @@ pub returns : goal.returns
 returns c =
     let r = c.put_list-3.result in
     let x1 = codes "{\"controller\":" in
-    let x2 = json_text (controller_json (option_copied c.args.controller)) in
+    let x2 = json_text (controller_json c.args.version (option_copied c.args.controller)) in
     let x3 = codes ",\"devices\":" in
     let x4 = json_text (list_json (map pulses_json c.args.devices.now)) in
     let x5 = codes ",\"events\":" in

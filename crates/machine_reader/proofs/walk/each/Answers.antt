@@ -1,6 +1,6 @@
 use Rattle.std.proofs.lemmas.List.Elements.{All-push}
-use Rattle.machine_reader.proofs.Walk.{each-more, each-stops}
-use Rattle.machine_reader.proofs.values.each.Goals as goal
+use Rattle.machine_reader.proofs.Elements.{each-more, each-stops}
+use Rattle.machine_reader.proofs.walk.each.Goals as goal
 
 pub returns-in-Err-clause-reads : goal.returns-in-Err-clause-reads
 returns-in-Err-clause-reads g c =

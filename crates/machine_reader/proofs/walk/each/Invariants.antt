@@ -1,7 +1,7 @@
 use Rattle.std.proofs.Common.{◌≡◌, All, Ok, take}
 use Rattle.serde_json.specs.View.{items_view}
 use Rattle.machine_reader.specs.Reading.{each_from}
-use Rattle.machine_reader.proofs.values.each.Given as goal
+use Rattle.machine_reader.proofs.walk.each.Given as goal
 
 abbrev pub invariant-loop-number : goal.invariant-loop-number
 invariant-loop-number g l = record {
