@@ -85,11 +85,10 @@ impl EventChip {
         ensures { Touches touch event self.old self.new }
     {
         let rank = rank_of(event);
-        let slot = self.slots[rank];
-        let after = slot.after(touch);
-        self.slots[rank] = after;
+        let old = self.slots[rank];
+        let new = self.slots[rank].touch(touch);
         let place = usize::from(event.register_place());
-        self.words.follow(touch, place, slot, after);
+        self.words.follow(touch, place, old, new);
     }
 
     /// The event happened: its status is set. The chip knows the event, which its `slot` tells.

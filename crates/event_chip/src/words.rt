@@ -1,5 +1,5 @@
 //! The status and enable bits of all events, and which words share a bit.
-ghost use Rattle.std.specs.Prelude.{◌≡◌, ℕ, ◌<◌, ◌==◌, false, if◌then◌else◌};
+ghost use Rattle.std.specs.Prelude.{◌≡◌, ℕ, ◌<◌, ◌==◌, ◌&&◌, not, true, false, if◌then◌else◌};
 ghost use Rattle.std.specs.Int.{bit_at};
 ghost use Rattle.event_chip.specs.Chip.{touched};
 ghost use Rattle.event_chip.specs.Kept.{enables, is_set};
@@ -26,10 +26,44 @@ impl Words {
         ensures status { self.new.status.words ≡ self.old.status.words }
         ensures enable { self.new.enable.words ≡ self.old.enable.words }
         ensures marks { (j : ℕ) → j < 32
-            → bit_at self.new.summary j ≡ (if j == k then one (shares self.old.status.words self.old.enable.words k) else bit_at self.old.summary j) }
+            → bit_at self.new.summary j
+                ≡ (if j == k then one (shares self.old.status.words self.old.enable.words k)
+                else bit_at self.old.summary j) }
     {
         let shared = self.status.words[k] & self.enable.words[k];
         self.summary = marked(self.summary, k, shared != 0);
+    }
+
+    /// Sets the summary bit of the words k, if they share a bit.
+    #[inline(always)]
+    fn add_mark(&mut self, k: usize)
+        requires { k < 17 }
+        ensures status { self.new.status.words ≡ self.old.status.words }
+        ensures enable { self.new.enable.words ≡ self.old.enable.words }
+        ensures marks { (j : ℕ) → j < 32
+            → bit_at self.new.summary j
+                ≡ (if (j == k) && shares self.old.status.words self.old.enable.words k then 1
+                else bit_at self.old.summary j) }
+    {
+        if self.status.words[k] & self.enable.words[k] != 0 {
+            self.summary = marked(self.summary, k, true);
+        }
+    }
+
+    /// Clears the summary bit of the words k, if they share none.
+    #[inline(always)]
+    fn drop_mark(&mut self, k: usize)
+        requires { k < 17 }
+        ensures status { self.new.status.words ≡ self.old.status.words }
+        ensures enable { self.new.enable.words ≡ self.old.enable.words }
+        ensures marks { (j : ℕ) → j < 32
+            → bit_at self.new.summary j
+                ≡ (if (j == k) && not (shares self.old.status.words self.old.enable.words k) then 0
+                else bit_at self.old.summary j) }
+    {
+        if self.status.words[k] & self.enable.words[k] == 0 {
+            self.summary = marked(self.summary, k, false);
+        }
     }
 
     /// Writes the two bits of a place.
@@ -48,20 +82,53 @@ impl Words {
         self.sum_up(place / 16);
     }
 
-    /// Writes the status bit of a place, if it changes.
+    /// Clears the two bits of a place.
     #[inline(always)]
-    fn put_status(&mut self, place: usize, changes: bool, is: bool)
-        requires place { place < 272 }
-        requires stays { changes ≡ false → has self.old.status.words place ≡ is }
+    fn clear(&mut self, place: usize)
+        requires { place < 272 }
         ensures status { (n : ℕ) → n < 272
-            → has self.new.status.words n ≡ (if n == place then is else has self.old.status.words n) }
+            → has self.new.status.words n ≡ (if n == place then false else has self.old.status.words n) }
+        ensures enable { (n : ℕ) → n < 272
+            → has self.new.enable.words n ≡ (if n == place then false else has self.old.enable.words n) }
+        ensures summary { IsSummary self.old.status.words self.old.enable.words self.old.summary
+            → IsSummary self.new.status.words self.new.enable.words self.new.summary }
+    {
+        self.status.set(place, false);
+        self.enable.set(place, false);
+        self.drop_mark(place / 16);
+    }
+
+    /// Sets the status bit of a place, unless it is set.
+    #[inline(always)]
+    fn set_status(&mut self, place: usize, is_set: bool)
+        requires place { place < 272 }
+        requires is_set { is_set ≡ true → has self.old.status.words place ≡ true }
+        ensures status { (n : ℕ) → n < 272
+            → has self.new.status.words n ≡ (if n == place then true else has self.old.status.words n) }
         ensures enable { self.new.enable.words ≡ self.old.enable.words }
         ensures summary { IsSummary self.old.status.words self.old.enable.words self.old.summary
             → IsSummary self.new.status.words self.new.enable.words self.new.summary }
     {
-        if changes {
-            self.status.set(place, is);
-            self.sum_up(place / 16);
+        if !is_set {
+            self.status.set(place, true);
+            self.add_mark(place / 16);
+        }
+    }
+
+    /// Sets the enable bit of a place, if it is to be set. It was clear if it is to be clear.
+    #[inline(always)]
+    fn set_enable(&mut self, place: usize, is: bool)
+        requires place { place < 272 }
+        requires stays { is ≡ false → has self.old.enable.words place ≡ false }
+        ensures status { self.new.status.words ≡ self.old.status.words }
+        ensures enable { (n : ℕ) → n < 272
+            → has self.new.enable.words n ≡ (if n == place then is else has self.old.enable.words n) }
+        ensures summary { IsSummary self.old.status.words self.old.enable.words self.old.summary
+            → IsSummary self.new.status.words self.new.enable.words self.new.summary }
+    {
+        if is {
+            self.enable.set(place, true);
+            self.add_mark(place / 16);
         }
     }
 
@@ -98,7 +165,7 @@ impl Words {
         if old.kind.is_level() {
             self.put_enable(place, true, false);
         } else if old.kind.is_listed() {
-            self.put(place, false, false);
+            self.clear(place);
         } else {
             self.put(place, false, new.is_enabled());
         }
@@ -109,6 +176,7 @@ impl Words {
     fn finish(&mut self, place: usize, old: Slot, new: Slot)
         requires place { place < 272 }
         requires status { has self.old.status.words place ≡ is_set old }
+        requires enable { has self.old.enable.words place ≡ enables old }
         requires touched { new ≡ touched touch.Finish old }
         ensures status { (n : ℕ) → n < 272
             → has self.new.status.words n ≡ (if n == place then is_set new else has self.old.status.words n) }
@@ -120,7 +188,7 @@ impl Words {
         if old.kind.is_level() {
             self.put(place, new.state.status, new.is_enabled());
         } else {
-            self.put_enable(place, true, new.is_enabled());
+            self.set_enable(place, new.is_enabled());
         }
     }
 
@@ -139,9 +207,9 @@ impl Words {
             → IsSummary self.new.status.words self.new.enable.words self.new.summary }
     {
         match touch {
-            Touch::Raise => self.put_status(place, !old.state.status, true),
+            Touch::Raise => self.set_status(place, old.state.status),
             Touch::Assert => {
-                self.put_status(place, !old.state.status, true);
+                self.set_status(place, old.state.status);
                 self.put_enable(place, old.is_parked(), new.is_enabled());
             }
             Touch::Drop => self.put_enable(place, old.is_parked(), new.is_enabled()),
