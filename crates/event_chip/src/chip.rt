@@ -1,5 +1,6 @@
 ghost use Rattle.std.specs.Prelude.{◌≡◌, ◌<◌, ◌||◌, IfOk, ℕ, false, if◌then◌else◌, length, slice_index, slice_index_or};
 ghost use Rattle.acpi_regs.specs.Event.{event_rank, is_gbl, same_event};
+ghost use Rattle.acpi_regs.specs.Registers.{place_of};
 ghost use Rattle.event_chip.specs.Chip.{always, first_slot, is_controllers, listing, no_slot, slot_of, slot_or};
 ghost use Rattle.event_chip.specs.Kept.{IsQuiet, Shows, enables};
 ghost use Rattle.event_chip.specs.Places.{rank_in};
@@ -84,10 +85,10 @@ impl EventChip {
     pub fn touch(&mut self, touch: Touch, event: Event)
         ensures { Touches touch event self.old self.new }
     {
+        let place = place_at(event);
         let rank = rank_of(event);
         let old = self.slots[rank];
         let new = self.slots[rank].touch(touch);
-        let place = usize::from(event.register_place());
         self.words.follow(touch, place, old, new);
     }
 
@@ -161,7 +162,7 @@ impl EventChip {
     pub fn pending(&self, event: Event) -> bool
         ensures { result ≡ pends self.now event }
     {
-        self.words.meets(usize::from(event.register_place()))
+        self.words.meets(place_at(event))
     }
 
     /// The first event, in the order in which events are served, that has status and is enabled; `None` exactly where no
@@ -289,7 +290,7 @@ fn write(slots: &mut [Slot], enable: &mut Places, event: Event, slot: Slot)
     ensures slots { (n : Event) → slot_of slots.new n ≡ (if same_event event n then slot else slot_of slots.old n) }
 {
     slots[rank_of(event)] = slot;
-    enable.set(usize::from(event.register_place()), slot.is_enabled());
+    enable.set(place_at(event), slot.is_enabled());
 }
 
 /// The place of an event in the order in which events are served, from 0 to 260.
@@ -298,6 +299,18 @@ pub fn rank_of(event: Event) -> usize
     ensures bound { result < 261 }
 {
     usize::from(event.rank())
+}
+
+/// The place of the event's bit, from 0 to 271.
+#[inline(always)]
+fn place_at(event: Event) -> usize
+    ensures value { result ≡ place_of event }
+    ensures bound { result < 272 }
+{
+    match event {
+        Event::Fixed(fixed) => usize::from(fixed.bit()),
+        Event::Gpe(number) => 16 + usize::from(number),
+    }
 }
 
 /// The event whose bit is at a place.
