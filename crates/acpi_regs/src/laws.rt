@@ -83,8 +83,8 @@ pub fn law_names()
     ensures { SpellsNames }
 {}
 
-/// The place of a GPE is a bit of its block's status register, the event at that place is the GPE, and each such bit has
-/// its GPE. A GPE at or after the end of the blocks has no place, and the one before the end has one.
+/// The place of a GPE is a bit of its block's status register, the event at that place is the GPE, and each such bit
+/// has its GPE. A GPE at or after the end of the blocks has no place, and the one before the end has one.
 pub fn law_places()
     ensures events { PlacesEvents }
     ensures fills { FillsPlaces }

@@ -5,8 +5,8 @@ use crate::{Deed, Event};
 
 /// What a worker or a firmware thread is doing with the Global Lock (ACPI 6.5, section 5.2.10.1).
 ///
-/// A load and an exchange of the lock's word lead from `Seeking` to `Won` or to `Marked`. A release leads from `Quit` to
-/// `Gone`. Every other change of phase is an entry.
+/// A load and an exchange of the lock's word lead from `Seeking` to `Won` or to `Marked`. A release leads from `Quit`
+/// to `Gone`. Every other change of phase is an entry.
 #[derive(Clone, Copy, Debug, PartialEq, Eq)]
 pub enum LockPhase {
     /// It does not compete.

@@ -1,5 +1,5 @@
 -- Bits of words, and the words that two sets share.
-use Rattle.std.proofs.Common.{◌≡◌, ◌≢◌, inl, inr, ℕ, ◌<◌, ◌≤◌, ◌==◌, ◌+◌, ◌*◌, ◌/◌, ◌%◌, ◌&&◌, Bool, true, false, List, length, slice_set, slice_index, if◌then◌else◌, refl, arith, ◌^◌, bit_or, bit_and, w16, w32, get_or, get_or-set_other, ap, sym, ◌∙◌, zero, suc, min, not, Some, None}
+use Rattle.std.proofs.Common.{◌≡◌, ◌≢◌, inl, inr, ℕ, ◌<◌, ◌==◌, ◌+◌, ◌*◌, ◌/◌, ◌%◌, ◌&&◌, Bool, true, false, List, length, slice_set, slice_index, if◌then◌else◌, refl, arith, ◌^◌, bit_or, bit_and, w16, w32, get_or, get_or-set_other, ap, sym, ◌∙◌, zero, suc, min, not, Some, None}
 use Rattle.std.proofs.lemmas.Bool.{cases_eq, cases_lt, ne_eqb, eq-eqb, eqb-true}
 use Rattle.std.proofs.lemmas.Grind.{get_or-set_at}
 use Rattle.std.proofs.lemmas.Nat.Bits.{bit_at_and, bit_at-lt, bit_at-zero, bit_at_set_same, bit_at_set_other, bit_at_clear_same, bit_at_clear_other, same_from_bits}
@@ -163,6 +163,7 @@ still_shares s e s' e' k ws we some = elim (cases_eq (bit_and (get_or s' k 0) (g
     apart : (x : ℕ) → x ≡ 0 → not (x == 0) ≡ true → ⊥
     apart zero e h = cc
     apart (suc x) e h = cc
+
     both : (a b a' b' : ℕ) → a < 2 → b < 2 → (a ≡ 1 → a' ≡ 1) → (b ≡ 1 → b' ≡ 1) → min a' b' ≡ 0 → min a b ≡ 0
     both zero b a' b' la lb fa fb z = omega arith
     both (suc a) zero a' b' la lb fa fb z = omega arith
@@ -172,11 +173,12 @@ still_shares s e s' e' k ws we some = elim (cases_eq (bit_and (get_or s' k 0) (g
         let x = fa one_a in
         let y = fb one_b in
         absurd (omega (arith, x, y, z))
+
     clear : (i : ℕ) → bit_and (get_or s' k 0) (get_or e' k 0) ≡ 0 → bit_at (bit_and (get_or s k 0) (get_or e k 0)) i ≡ bit_at 0 i
     clear i none =
         bit_at_and (get_or s k 0) (get_or e k 0) i
         ∙ both (bit_at (get_or s k 0) i) (bit_at (get_or e k 0) i) (bit_at (get_or s' k 0) i) (bit_at (get_or e' k 0) i) (bit_at-lt (get_or s k 0) i) (bit_at-lt (get_or e k 0) i) (ws i) (we i)
-          (sym (bit_at_and (get_or s' k 0) (get_or e' k 0) i) ∙ ap (λ x. bit_at x i) none ∙ bit_at-zero i)
+        (sym (bit_at_and (get_or s' k 0) (get_or e' k 0) i) ∙ ap (λ x. bit_at x i) none ∙ bit_at-zero i)
         ∙ sym (bit_at-zero i)
 
 -- a mark that is added where the words share a bit, when bits were set
@@ -193,6 +195,7 @@ summary_grown s e s' e' m m' k same_s same_e grows bits old =
     here a true x is grow = refl
     here true false x is grow = absurd (let z = grow refl in cc)
     here false false x is grow = is
+
     at : (j : ℕ) → j < 32 → (b : Bool) → (j == k) ≡ b → (if b && shares s' e' k then 1 else bit_at m j) ≡ (if b then one (shares s' e' k) else bit_at m j)
     at j l false n = refl
     at j l true y = here (shares s e k) (shares s' e' k) (bit_at m j) (old j l ∙ ap (λ i. one (shares s e i)) (eqb-true j k y)) grows
@@ -211,6 +214,7 @@ summary_shrunk s e s' e' m m' k same_s same_e shrinks bits old =
     here a false x is shrink = refl
     here true true x is shrink = is
     here false true x is shrink = absurd (let z = shrink refl in cc)
+
     at : (j : ℕ) → j < 32 → (b : Bool) → (j == k) ≡ b → (if b && not (shares s' e' k) then 0 else bit_at m j) ≡ (if b then one (shares s' e' k) else bit_at m j)
     at j l false n = refl
     at j l true y = here (shares s e k) (shares s' e' k) (bit_at m j) (old j l ∙ ap (λ i. one (shares s e i)) (eqb-true j k y)) shrinks

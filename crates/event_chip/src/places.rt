@@ -18,6 +18,7 @@ impl Places {
     }
 
     /// Puts a place in, or takes it out.
+    #[inline(always)]
     pub fn set(&mut self, place: usize, is_in: bool)
         requires { place < 272 }
         ensures others { (k : ℕ) → (k == place / 16) ≡ false
@@ -35,6 +36,7 @@ impl Places {
 }
 
 /// The word with one bit set or cleared.
+#[inline(always)]
 fn with_bit(word: u16, bit: usize, is_in: bool) -> u16
     requires { bit < 16 }
     ensures bits { (i : ℕ) → i < 16 → bit_at result i ≡ (if i == bit then one is_in else bit_at word i) }

@@ -36,7 +36,7 @@ impl EventKind {
 /// The registers of one event.
 #[derive(Clone, Copy, Debug)]
 pub struct EventState {
-    /// The event happened, and was not claimed since.
+    /// The event's status bit.
     pub status: bool,
     /// The line of a level event is asserted.
     pub line: bool,
@@ -48,7 +48,7 @@ pub struct EventState {
     pub storm: u8,
 }
 
-/// What the chip has of one event.
+/// What the chip keeps of one event.
 #[derive(Clone, Copy, Debug)]
 pub struct Slot {
     /// How it is enabled and handled.
@@ -70,14 +70,14 @@ pub enum Touch {
     Claim,
     /// A run of its handler ended.
     Finish,
-    /// One reference more.
+    /// A reference was added.
     Up,
-    /// One reference less.
+    /// A reference was removed.
     Down,
 }
 
 impl Slot {
-    /// An event of this kind and with so many references, before anything happened.
+    /// The slot of an event of this kind and with this many references, before anything happened.
     pub fn fresh(kind: EventKind, count: u8) -> Slot
         ensures { result ≡ record { kind = kind; state = fresh count } }
     {
@@ -91,7 +91,7 @@ impl Slot {
         Slot { kind, state }
     }
 
-    /// A listed event, at the start.
+    /// The slot of a listed event at the start.
     pub fn listed(item: &Listed) -> Slot
         ensures { result ≡ listed_slot item.now }
     {
@@ -136,7 +136,7 @@ impl Slot {
         counted && !self.state.held && !self.is_parked()
     }
 
-    /// Whether sixteen runs in a row ended under an asserted line.
+    /// Whether at least sixteen runs in a row of a level event ended under its asserted line.
     pub fn is_parked(self) -> bool
         ensures { result ≡ is_parked self.kind self.state }
     {

@@ -9,8 +9,8 @@ ghost use Rattle.event_chip.specs.declared.state.Touch.TheVariants as touch;
 use crate::places::Places;
 use crate::{Slot, Touch};
 
-/// The status and enable bits of all events by their places, with a summary whose bit k says that word k has a bit set in
-/// both. So the first event that is pending is found by two counts of trailing zeros.
+/// The status and enable bits of all events by their places, with a summary: bit k says that word k has a bit set in
+/// both. So two counts of trailing zeros find the first event that is pending.
 #[derive(Clone, Copy, Debug)]
 pub struct Words {
     pub status: Places,
@@ -19,7 +19,7 @@ pub struct Words {
 }
 
 impl Words {
-    /// Says in the summary whether the words k share a bit.
+    /// Writes in the summary whether the words k share a bit.
     #[inline(always)]
     fn sum_up(&mut self, k: usize)
         requires { k < 17 }
@@ -27,8 +27,8 @@ impl Words {
         ensures enable { self.new.enable.words ≡ self.old.enable.words }
         ensures marks { (j : ℕ) → j < 32
             → bit_at self.new.summary j
-                ≡ (if j == k then one (shares self.old.status.words self.old.enable.words k)
-                else bit_at self.old.summary j) }
+            ≡ (if j == k then one (shares self.old.status.words self.old.enable.words k)
+            else bit_at self.old.summary j) }
     {
         let shared = self.status.words[k] & self.enable.words[k];
         self.summary = marked(self.summary, k, shared != 0);
@@ -42,8 +42,8 @@ impl Words {
         ensures enable { self.new.enable.words ≡ self.old.enable.words }
         ensures marks { (j : ℕ) → j < 32
             → bit_at self.new.summary j
-                ≡ (if (j == k) && shares self.old.status.words self.old.enable.words k then 1
-                else bit_at self.old.summary j) }
+            ≡ (if (j == k) && shares self.old.status.words self.old.enable.words k then 1
+            else bit_at self.old.summary j) }
     {
         if self.status.words[k] & self.enable.words[k] != 0 {
             self.summary = marked(self.summary, k, true);
@@ -58,8 +58,8 @@ impl Words {
         ensures enable { self.new.enable.words ≡ self.old.enable.words }
         ensures marks { (j : ℕ) → j < 32
             → bit_at self.new.summary j
-                ≡ (if (j == k) && not (shares self.old.status.words self.old.enable.words k) then 0
-                else bit_at self.old.summary j) }
+            ≡ (if (j == k) && not (shares self.old.status.words self.old.enable.words k) then 0
+            else bit_at self.old.summary j) }
     {
         if self.status.words[k] & self.enable.words[k] == 0 {
             self.summary = marked(self.summary, k, false);
@@ -149,7 +149,7 @@ impl Words {
         }
     }
 
-    /// Writes what a claim changes. A listed event is held, so it is no longer enabled.
+    /// Writes the bits that a claim changes. A listed event is held, so it is no longer enabled.
     #[inline(always)]
     fn claim(&mut self, place: usize, old: Slot, new: Slot)
         requires place { place < 272 }
@@ -171,7 +171,7 @@ impl Words {
         }
     }
 
-    /// Writes what a finish changes. Only the status of a level event does.
+    /// Writes the bits that a finish changes. The status of an event that is not level stays.
     #[inline(always)]
     fn finish(&mut self, place: usize, old: Slot, new: Slot)
         requires place { place < 272 }
@@ -192,7 +192,7 @@ impl Words {
         }
     }
 
-    /// Writes what a touch changes of an event's two bits.
+    /// Writes the bits that a touch changes.
     #[inline(always)]
     pub fn follow(&mut self, touch: Touch, place: usize, old: Slot, new: Slot)
         requires place { place < 272 }
@@ -231,6 +231,7 @@ impl Words {
     }
 
     /// The first place whose bit is set in both.
+    #[inline(always)]
     pub fn first(&self) -> Option<usize>
         requires { IsSummary self.now.status.words self.now.enable.words self.now.summary }
         ensures { IsFirstPlace self.now.status.words self.now.enable.words result }
@@ -245,6 +246,7 @@ impl Words {
 }
 
 /// The summary with one bit set or cleared.
+#[inline(always)]
 fn marked(summary: u32, bit: usize, is_in: bool) -> u32
     requires { bit < 32 }
     ensures { (i : ℕ) → i < 32 → bit_at result i ≡ (if i == bit then one is_in else bit_at summary i) }
@@ -257,7 +259,8 @@ fn marked(summary: u32, bit: usize, is_in: bool) -> u32
     }
 }
 
-/// The place of the lowest bit that is set.
+/// The place of the lowest bit that is set, from 0 to 31.
+#[inline(always)]
 fn lowest_mark(summary: u32) -> usize
     requires { 0 < summary }
     ensures within { result < 32 }
@@ -267,7 +270,8 @@ fn lowest_mark(summary: u32) -> usize
     summary.trailing_zeros() as usize
 }
 
-/// The place of the lowest bit that is set.
+/// The place of the lowest bit that is set, from 0 to 15.
+#[inline(always)]
 fn lowest_bit(word: u16) -> usize
     requires { 0 < word }
     ensures within { result < 16 }

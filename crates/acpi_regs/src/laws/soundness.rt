@@ -13,8 +13,8 @@ ghost use Rattle.acpi_regs.specs.CoreEvents.{CoreEvent, InRange, IsKnown, IsTurn
 ghost use Rattle.acpi_regs.specs.CoreSound.{AreOfKind, CoreSound, LockSound, PinsSound, hands, holds, latches, listed_pulses, lock_phases};
 ghost use Rattle.acpi_regs.specs.Phases.{Phase};
 
-/// The first core is sound, and each event that may happen leads from a sound core to a sound one. A pulse only requires
-/// of the lists that its own event exists, and a turn requires nothing of other actors.
+/// The first core is sound, and each event that may happen leads from a sound core to a sound one. A pulse only
+/// requires of the lists that its own event exists, and a turn requires nothing of other actors.
 pub fn law_kept()
     ensures first { (lists : List (List Event)) → CoreSound lists first_core }
     ensures step { (lists : List (List Event)) (c : Core) (e : CoreEvent)

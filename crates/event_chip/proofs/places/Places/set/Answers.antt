@@ -1,4 +1,4 @@
-use Rattle.std.proofs.Common.{◌<◌, ◌/◌, length, arith, rules}
+use Rattle.std.proofs.Common.{◌/◌, rules}
 use Rattle.event_chip.proofs.PlaceBits.{set_down, set_has, set_up}
 use Rattle.event_chip.proofs.places.Places.set.Goals as goal
 
