@@ -1,10 +1,9 @@
 -- Codes are read back: what a code says has that code, and each code says what it was made of.
-use Rattle.std.proofs.Common.{◌≡◌, ◌≢◌, inl, inr, ℕ, ◌+◌, ◌*◌, ◌-◌, ◌/◌, ◌%◌, ◌==◌, ◌<◌, ◌≤◌, Bool, true, false, if◌then◌else◌, nat_lt, Option, Some, None, refl, sym, ap, subst, ◌∙◌, arith, rules}
-use Rattle.std.proofs.lemmas.Bool.{cases_eq, cases_lt, ne_eqb, eq-eqb}
+use Rattle.std.proofs.Common.{◌≡◌, ◌≢◌, inl, inr, ℕ, ◌+◌, ◌*◌, ◌/◌, ◌%◌, ◌==◌, ◌<◌, ◌≤◌, Bool, true, false, if◌then◌else◌, nat_lt, Option, Some, None, refl, sym, ap, subst, ◌∙◌, arith}
+use Rattle.std.proofs.lemmas.Bool.{cases_eq, ne_eqb, eq-eqb}
 use Rattle.std.proofs.lemmas.Bool.Decides.{nat_tests}
 use Rattle.acpi_regs.specs.declared.actor.Actor.{Actor}
 use Rattle.acpi_regs.specs.declared.actor.Actor.TheVariants as actor
-use Rattle.acpi_regs.specs.declared.entry.Cell.{Cell}
 use Rattle.acpi_regs.specs.declared.entry.Deed.{Deed}
 use Rattle.acpi_regs.specs.declared.entry.Deed.TheVariants as deed
 use Rattle.acpi_regs.specs.declared.entry.Effect.{Effect}
@@ -17,7 +16,7 @@ use Rattle.acpi_regs.specs.declared.entry.Request.TheVariants as request
 use Rattle.acpi_regs.specs.declared.event.Event.{Event}
 use Rattle.acpi_regs.specs.declared.event.Event.TheVariants as event
 use Rattle.acpi_regs.specs.declared.event.Fixed.TheVariants as fixed
-use Rattle.acpi_regs.specs.Packing.{Decodes, IsAsked, IsCarried, IsDeed, IsEffect, IsMove, IsNumbered, IsPackable, IsSeat, PacksApart, actor_code, carried_code, cell_code, deed_code, deed_word, effect_code, event_code, move_code, packing, payload, request_code}
+use Rattle.acpi_regs.specs.Packing.{Decodes, IsAsked, IsDeed, IsEffect, IsMove, IsNumbered, IsPackable, IsSeat, PacksApart, actor_code, deed_code, deed_word, effect_code, event_code, move_code, packing, payload, request_code}
 use Rattle.acpi_regs.specs.Unpacking.{actor_at, begin_at, cell_at, ctl_at, deed_at, effect_at, entry_at, entry_of, event_deed, event_in, move_at, request_at, step_at}
 
 -- ---- what a code says has that code

@@ -1,4 +1,4 @@
--- What one more entry does to what a past tells of the lock.
+-- What one more entry changes of the lock's state after a past.
 use Rattle.std.proofs.Common.{ℕ, ◌+◌, ◌≤◌, ◌≡◌, ◌||◌, Bool, true, false, not, cond, List, ◌∷◌, Option, Some, None, refl, sym, ap, ◌∙◌, arith}
 use Rattle.acpi_regs.specs.declared.actor.Actor.{Actor}
 use Rattle.acpi_regs.specs.declared.actor.Actor.TheVariants as actor
@@ -216,7 +216,7 @@ quiet_moved _ p quiet = refl
 
 -- ---- one actor's fit
 
--- where the past tells the same of an actor
+-- if nothing changes for an actor
 pub refit : (past later : List Entry) (s : Side) (b : Actor) (p : LockPhase) → is_someone b (seeker s later) ≡ is_someone b (seeker s past) → is_someone b (owner later) ≡ is_someone b (owner past)
     → has_owned b later ≡ has_owned b past → has_disowned b later ≡ has_disowned b past → is_busy b later ≡ is_busy b past → Fits past s b p → Fits later s b p
 refit past later s b p es eo ew ed eb h = record {

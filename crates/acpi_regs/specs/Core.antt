@@ -7,8 +7,8 @@ use Rattle.acpi_regs.specs.declared.event.Event.TheVariants as event
 use Rattle.acpi_regs.specs.declared.event.Fixed.TheVariants as fixed
 use Rattle.acpi_regs.specs.Phases.{Phase, first_phase}
 
--- the word of the Global Lock (ACPI 6.5, section 5.2.10.1), the events whose pins are set, the history, the oldest entry
--- first, and the phases
+-- the word of the Global Lock (ACPI 6.5, section 5.2.10.1), the events whose pins are set, the history with its oldest
+-- entry first, and the phases
 pub record Core : Type 0 where
   pub word : ℕ
   pub pins : Event → Bool

@@ -1,6 +1,6 @@
--- What may happen to the core that actors share, one atomic step of one actor at a time, and what each step leaves: a load,
--- an exchange and a release of the lock's word (ACPI 6.5, section 5.2.10.1), a pulse, a collect of a pin word, and a turn,
--- which adds entries. Which entries are legal is said by the crates above.
+-- What may happen to the core that actors share, one atomic step of one actor at a time, and the core after each step.
+-- A step is a load, an exchange or a release of the lock's word (ACPI 6.5, section 5.2.10.1), a pulse, a collect of a
+-- pin word, or a turn, which adds entries. The crates above say which entries are legal.
 use Rattle.std.specs.Prelude.{ℕ, ◌≡◌, ◌≤◌, ◌+◌, ◌<◌, ◌==◌, ◌&&◌, ◌||◌, not, Bool, true, false, List, [], ◌∷◌, ◌++◌, length, map, reverse, Option, Some, None, slice_get, unwrap_or, if◌then◌else◌}
 use Rattle.acpi_regs.specs.declared.actor.Actor.{Actor}
 use Rattle.acpi_regs.specs.declared.actor.Actor.TheVariants as actor
@@ -43,7 +43,7 @@ tried word = if is_owned word then phase.Marked else phase.Won
 
 -- ---- phases
 
--- the word that it has loaded
+-- the word that the actor has loaded
 abbrev pub loaded : Phase → Option ℕ
 loaded (Lock (phase.Seeking l)) = l
 loaded _ = None
@@ -91,7 +91,7 @@ list_of lists k = unwrap_or (slice_get lists k) []
 abbrev pub next_pulse : List (List Event) → Core → ℕ → Option Event
 next_pulse lists c k = slice_get (list_of lists k) (length (pulses_in (c.phases (actor.Device k))))
 
--- the lists name events that there are
+-- the lists name existing events only
 abbrev pub InRange : List (List Event) → Type 0
 InRange lists = (k i : ℕ) (n : Event) → slice_get (list_of lists k) i ≡ Some n → event_rank n < all_events
 
@@ -103,26 +103,27 @@ is_host actor.Int = true
 is_host actor.Poll = true
 is_host _ = false
 
--- the entries that a phase allows: of those of the lock one at most, and every other
+-- the entries that a phase allows: at most one of the lock's, and all others
 abbrev pub may_add : Phase → Deed → Bool
 may_add (Lock p) d = allows p d
 may_add _ d = not (is_lock_deed d)
 
--- a seek comes where its side has no seeker
+-- an entry is no seek, or its side has no seeker
 abbrev pub IsUnsought : List Entry → Actor → Deed → Type 0
 IsUnsought past a deed.Seek = (s : Side) → stands_on s a ≡ true → seeker s past ≡ None
 IsUnsought past a _ = Unit {0}
 
--- each entry is one that this phase allows, and no seek of it comes where its side is sought
+-- the phase allows each entry, and the side of a seek has no seeker
 abbrev pub EachMay : Phase → List Entry → Actor → List Deed → Type 0
 EachMay p past a [] = Unit {0}
 EachMay p past a (d ∷ deeds) = (may_add p d ≡ true) × IsUnsought past a d × EachMay p past a deeds
 
--- how many entries of the lock there are
+-- the number of entries of the lock
 abbrev pub lock_deeds : List Deed → ℕ
 lock_deeds [] = 0
 lock_deeds (d ∷ deeds) = one (is_lock_deed d) + lock_deeds deeds
 
+-- the entry is a latch
 abbrev pub is_latch : Deed → Bool
 is_latch (deed.Latch n) = true
 is_latch _ = false
@@ -133,9 +134,11 @@ has_no_latch (d ∷ deeds) = not (is_latch d) && has_no_latch deeds
 
 -- the latches come first, and are the events in hand, in the order in which events are served
 abbrev pub LatchesFirst : Phase → List Deed → Type 0
-LatchesFirst p deeds = (rest : List Deed) × (deeds ≡ map deed.Latch (events_of (in_hand p)) ++ rest) × (has_no_latch rest ≡ true)
+LatchesFirst p deeds =
+    (rest : List Deed) × (deeds ≡ map deed.Latch (events_of (in_hand p)) ++ rest) × (has_no_latch rest ≡ true)
 
--- what a turn adds, said at its start: the latches first, and one entry of the lock at most, which the phase allows
+-- the entries of a turn, as known at its start: the latches first, and at most one entry of the lock, which the phase
+-- allows
 pub record IsTurn (p : Phase) (past : List Entry) (a : Actor) (deeds : List Deed) : Type 0 where
   pub latches : LatchesFirst p deeds
   pub few : lock_deeds deeds ≤ 1
@@ -146,7 +149,7 @@ pub record IsTurn (p : Phase) (past : List Entry) (a : Actor) (deeds : List Deed
 abbrev pub OthersFree : (Actor → Phase) → Actor → Type 0
 OthersFree phases a = (b : Actor) → same_actor a b ≡ false → is_holding (phases b) ≡ false
 
--- when an event may happen; a collect of a word above 4 finds nothing, since no event's pin lies there
+-- when an event may happen; a collect of a word above 4 finds nothing, because no event has its pin there
 abbrev pub MayHappen : List (List Event) → Core → CoreEvent → Type 0
 MayHappen lists c (Load a) = (l : Option ℕ) × (c.phases a ≡ Lock (phase.Seeking l))
 MayHappen lists c (Exchange a) = (l : ℕ) × (c.phases a ≡ Lock (phase.Seeking (Some l)))
@@ -155,14 +158,14 @@ MayHappen lists c (Pulses k) = (n : Event) × (next_pulse lists c k ≡ Some n)
 MayHappen lists c (Collect a w) = (is_host a ≡ true) × OthersFree c.phases a × (has_collected (c.phases a) w ≡ false)
 MayHappen lists c (Turn a deeds) = OthersFree c.phases a × IsTurn (c.phases a) (past_in c) a deeds
 
--- where it pulses an event, that is one that there is
+-- an event that it pulses exists
 abbrev pub IsKnown : List (List Event) → Core → CoreEvent → Type 0
 IsKnown lists c (Pulses k) = (n : Event) → next_pulse lists c k ≡ Some n → event_rank n < all_events
 IsKnown lists c _ = Unit {0}
 
--- ---- what it leaves
+-- ---- the core after it
 
--- an exchange changes the word where it is still the loaded one, which is forgotten where it is not
+-- an exchange changes the word if it is still the loaded one, and otherwise the actor forgets what it loaded
 abbrev pub exchanged : Core → Actor → Option ℕ → Core
 exchanged c a None = c
 exchanged c a (Some l) =
@@ -175,23 +178,36 @@ abbrev pub pulsed : Core → ℕ → Option Event → Core
 pulsed c k None = c
 pulsed c k (Some n) = record c {
   pins = λ x. c.pins x || same_event x n;
-  phases = put (actor.Device k) (Pulsed (pulses_in (c.phases (actor.Device k)) ++ record { event = n; clear = not (c.pins n) } ∷ [])) c.phases;
+  phases =
+      put (actor.Device k)
+      (Pulsed (pulses_in (c.phases (actor.Device k)) ++ record { event = n; clear = not (c.pins n) } ∷ []))
+      c.phases;
 }
 
 -- the pins of a word go to the hand
 abbrev pub collected : Core → Actor → ℕ → Core
 collected c a w = record c {
   pins = λ n. c.pins n && not (word_of n == w);
-  phases = put a (Holding (λ u. has_collected (c.phases a) u || (u == w)) (λ n. in_hand (c.phases a) n || (c.pins n && (word_of n == w)))) c.phases;
+  phases =
+      put a
+      (Holding (λ u. has_collected (c.phases a) u || (u == w))
+      (λ n. in_hand (c.phases a) n || (c.pins n && (word_of n == w))))
+      c.phases;
 }
 
 abbrev pub turned : Core → Actor → List Deed → Core
-turned c a deeds = record c { history = c.history ++ map (entry a) deeds; phases = put a (freed (moved_all deeds (c.phases a))) c.phases }
+turned c a deeds = record c {
+  history = c.history ++ map (entry a) deeds;
+  phases = put a (freed (moved_all deeds (c.phases a))) c.phases;
+}
 
 abbrev pub happens : List (List Event) → Core → CoreEvent → Core
 happens lists c (Load a) = record c { phases = put a (Lock (phase.Seeking (Some c.word))) c.phases }
 happens lists c (Exchange a) = exchanged c a (loaded (c.phases a))
-happens lists c (Release a) = record c { word = released c.word; phases = put a (Lock (phase.Gone (is_pending c.word))) c.phases }
+happens lists c (Release a) = record c {
+  word = released c.word;
+  phases = put a (Lock (phase.Gone (is_pending c.word))) c.phases;
+}
 happens lists c (Pulses k) = pulsed c k (next_pulse lists c k)
 happens lists c (Collect a w) = collected c a w
 happens lists c (Turn a deeds) = turned c a deeds

@@ -1,4 +1,4 @@
--- When a core is sound, as far as its word, its pins, its entries and its actors' phases tell: the lock's word and its
+-- When a core is sound, judged by its word, its pins, its entries and its actors' phases: the lock's word and its
 -- signals agree with what actors are about to do (ACPI 6.5, section 5.2.10.1), and no pulse is lost or latched twice.
 use Rattle.std.specs.Prelude.{ℕ, zero, suc, ◌≡◌, ◌≤◌, ◌<◌, ◌+◌, ◌==◌, ◌&&◌, ◌||◌, not, Bool, true, false, List, [], ◌∷◌, length, Option, Some, None}
 use Rattle.std.specs.List.{sum_by}
@@ -43,7 +43,7 @@ competes side.Os (actor.Worker k) = true
 competes side.Firmware (actor.Firmware k) = true
 competes _ _ = false
 
--- where a phase stands towards the lock: who does not compete stands idle
+-- an actor's phase for the lock, which is Idle if it does not compete
 abbrev pub lock_phase : Phase → LockPhase
 lock_phase (Lock p) = p
 lock_phase _ = phase.Idle
@@ -72,7 +72,7 @@ abbrev pub has_good_word : LockPhase → Bool
 has_good_word (phase.Seeking (Some l)) = is_word l
 has_good_word _ = true
 
--- what a phase tells of the actor's entries since its seek: whether it owned, disowned, and is busy
+-- the phase agrees with the actor's entries since its seek: whether it owned, disowned, and is busy
 abbrev pub tells : LockPhase → Bool → Bool → Bool → Bool
 tells phase.Idle owned disowned busy = true
 tells (phase.Seeking l) owned disowned busy = not owned && not busy
@@ -90,7 +90,7 @@ pub record Fits (past : List Entry) (s : Side) (a : Actor) (p : LockPhase) : Typ
   pub since : tells p (has_owned a past) (has_disowned a past) (is_busy a past) ≡ true
   pub loaded : has_good_word p ≡ true
 
--- a side has a signal for who waits there: its wake, or for the OS the status of the lock's event
+-- a side has a signal for the actor that waits there: its wake, or for the OS the status of the lock's event
 abbrev pub is_signalled : Side → List Entry → Bool
 is_signalled side.Os past = wake side.Os past || gbl_status past
 is_signalled side.Firmware past = wake side.Firmware past
@@ -107,29 +107,37 @@ phase_at phases None = phase.Idle
 phase_at phases (Some a) = phases a
 
 abbrev pub half : List Entry → (Actor → LockPhase) → Side → Half
-half past phases s = record { phase = phase_at phases (seeker s past); signalled = is_signalled s past; leaves = leaves s past; busies = busies s past }
+half past phases s = record {
+  phase = phase_at phases (seeker s past);
+  signalled = is_signalled s past;
+  leaves = leaves s past;
+  busies = busies s past;
+}
 
--- The word is owned where one actor holds it. Who waits has a reason: the word is pending, the other side is about to
--- signal, or a signal is there. The signals that were given or will be are no more than the other side's waits.
+-- The word is owned exactly if one actor holds it. An actor that waits has a reason: the word is pending, the other
+-- side is about to signal, or it has signalled. The signals that were given or will be are at most the other side's
+-- waits.
 pub record Agree (word : ℕ) (x y : Half) : Type 0 where
   pub good : is_word word ≡ true
   pub owned : one (not (word == 0)) ≡ one (holds x.phase) + one (holds y.phase)
   pub waits_x : one (waits x.phase) ≤ one (word == 3) + (one (is_gone true y.phase) + one x.signalled)
   pub waits_y : one (waits y.phase) ≤ one (word == 3) + (one (is_gone true x.phase) + one y.signalled)
-  pub signals_x : x.leaves + (one (is_gone true x.phase) + one ((word == 3) && holds x.phase)) ≤ y.busies + one (is_marked y.phase)
-  pub signals_y : y.leaves + (one (is_gone true y.phase) + one ((word == 3) && holds y.phase)) ≤ x.busies + one (is_marked x.phase)
+  pub signals_x :
+      x.leaves + (one (is_gone true x.phase) + one ((word == 3) && holds x.phase)) ≤ y.busies + one (is_marked y.phase)
+  pub signals_y :
+      y.leaves + (one (is_gone true y.phase) + one ((word == 3) && holds y.phase)) ≤ x.busies + one (is_marked x.phase)
 
 pub record LockSound (word : ℕ) (past : List Entry) (phases : Actor → LockPhase) : Type 0 where
   pub agree : Agree word (half past phases side.Os) (half past phases side.Firmware)
   pub fits : (s : Side) (a : Actor) → competes s a ≡ true → Fits past s a (phases a)
-  -- who is not idle competes for a side, and so does each seeker; the owner is in its phase
+  -- an actor that is not idle competes for a side, and so does each seeker; the owner is in the phase of an owner
   pub sides : (a : Actor) → is_idle (phases a) ≡ false → (s : Side) × (competes s a ≡ true)
   pub seekers : (s : Side) (a : Actor) → seeker s past ≡ Some a → competes s a ≡ true
   pub owners : (a : Actor) → owner past ≡ Some a → is_owning (phases a) ≡ true
 
 -- ---- pulses, pins and hands
 
--- how many latches of an event there were
+-- the number of latches of an event
 abbrev pub latch_in : Event → Deed → ℕ
 latch_in n (deed.Latch x) = one (same_event x n)
 latch_in n _ = 0
@@ -158,7 +166,7 @@ all_pulses lists phases n = sum_below (λ k. times_pulsed n (pulses_in (phases (
 abbrev pub all_clear : List (List Event) → (Actor → Phase) → Event → ℕ
 all_clear lists phases n = sum_below (λ k. times_clear n (pulses_in (phases (actor.Device k)))) (length lists)
 
--- how many times an event stands in a list, and in the lists of all devices
+-- how often an event is in a list, and in the lists of all devices
 abbrev pub times : Event → List Event → ℕ
 times n [] = 0
 times n (x ∷ events) = one (same_event x n) + times n events
@@ -176,21 +184,22 @@ IsStart (n ∷ events) (p ∷ pulses) = (p.event ≡ n) × IsStart events pulses
 abbrev pub hands : (Actor → Phase) → Event → ℕ
 hands phases n = one (in_hand (phases actor.Int) n) + one (in_hand (phases actor.Poll) n)
 
-pub record PinsSound (lists : List (List Event)) (pins : Event → Bool) (past : List Entry) (phases : Actor → Phase) : Type 0 where
+pub record PinsSound (lists : List (List Event)) (pins : Event → Bool) (past : List Entry) (phases : Actor → Phase)
+    : Type 0 where
   pub start : (k : ℕ) → IsStart (list_of lists k) (pulses_in (phases (actor.Device k)))
-  -- the pulses that found their pin clear were latched, stand in the pin, or are in a hand
+  -- the pulses that found their pin clear were latched, are in the pin, or are in a hand
   pub counts : (n : Event) → all_clear lists phases n ≡ latches n past + (one (pins n) + hands phases n)
-  -- an event that was pulsed was found clear once at least
+  -- an event that was pulsed was found clear at least once
   pub some_clear : (n : Event) → 1 ≤ all_pulses lists phases n → 1 ≤ all_clear lists phases n
-  -- at most one actor holds the turn, int or poll, and what is in its hand is of pin words that it collected
+  -- at most one of int and poll holds the turn, and the events in its hand are from pin words that it collected
   pub alone : (is_holding (phases actor.Int) && is_holding (phases actor.Poll)) ≡ false
   pub hosts : (a : Actor) → is_host a ≡ false → is_holding (phases a) ≡ false
   pub collected : (a : Actor) (n : Event) → in_hand (phases a) n ≡ true → has_collected (phases a) (word_of n) ≡ true
-  -- pins and hands have events that there are
+  -- pins and hands have existing events only
   pub pins_known : (n : Event) → pins n ≡ true → event_rank n < all_events
   pub hand_known : (a : Actor) (n : Event) → in_hand (phases a) n ≡ true → event_rank n < all_events
 
--- ---- the core, all but its legal history and its codes
+-- ---- the core, except its legal history and its codes
 
 pub record CoreSound (lists : List (List Event)) (c : Core) : Type 0 where
   pub kinds : AreOfKind c.phases

@@ -39,7 +39,7 @@ gbl = event.Fixed fixed.Gbl
 abbrev pub is_gbl : Event → Bool
 is_gbl n = same_event n gbl
 
--- where the pin of an event stands: fixed events in word 0 by their PM1 bits, GPEs in four words by 64
+-- the word and the bit of an event's pin: fixed events in word 0 by their PM1 bits, GPEs in four words of 64 bits
 abbrev pub word_of : Event → ℕ
 word_of (event.Fixed f) = 0
 word_of (event.Gpe n) = 1 + n / 64

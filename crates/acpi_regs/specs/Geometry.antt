@@ -1,4 +1,4 @@
--- Where the general-purpose events stand (ACPI 6.5, section 4.8.4.1).
+-- Where the bits of general-purpose events are (ACPI 6.5, section 4.8.4.1).
 --
 -- A block of n bytes is a status register and an enable register of n / 2 bytes each, so it has 4n events.
 -- Bit b of byte k of the status register is event 8k + b, to which the base is added in the second block.
@@ -13,11 +13,11 @@ pub record Blocks : Type 0 where
   pub base1 : ℕ
   pub gpe1 : ℕ
 
--- a block has an even length, of at most 64 bytes
+-- the length of a block is odd or above 64 bytes
 abbrev pub is_bad_length : ℕ → Bool
 is_bad_length n = (n % 2 == 1) || nat_lt 64 n
 
--- a second block that is there begins behind the events of the first, and ends with event 255 at the latest
+-- the second block is not empty, and begins before the end of the first or ends after event 255
 abbrev pub is_bad_base : Blocks → Bool
 is_bad_base b = nat_lt 0 b.gpe1 && (nat_lt b.base1 (4 * b.gpe0) || nat_lt 256 (b.base1 + 4 * b.gpe1))
 
@@ -35,7 +35,7 @@ is_in_first b n = nat_lt n (4 * b.gpe0)
 abbrev pub is_in_second : Blocks → ℕ → Bool
 is_in_second b n = nat_le b.base1 n && nat_lt n (b.base1 + 4 * b.gpe1)
 
--- where the k-th event of a block stands
+-- the place of the k-th event of a block
 abbrev pub place_at : (block k : ℕ) → GpePlace
 place_at block k = record { block = block; byte = k / 8; bit = k % 8 }
 
@@ -45,6 +45,6 @@ place_in b n =
     if is_in_first b n then Some (place_at 0 n)
     else (if is_in_second b n then Some (place_at 1 (n - b.base1)) else None)
 
--- the greatest event of the two blocks plus 1, or 0
+-- the greatest event of the two blocks plus 1, or 0 if they have none
 abbrev pub end_of : Blocks → ℕ
 end_of b = if nat_lt 0 b.gpe1 then b.base1 + 4 * b.gpe1 else 4 * b.gpe0

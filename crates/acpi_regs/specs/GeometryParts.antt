@@ -1,4 +1,4 @@
--- The blocks that a geometry tells.
+-- The blocks of a geometry.
 use Rattle.acpi_regs.specs.declared.geometry.GpeGeometry.{GpeGeometry}
 use Rattle.acpi_regs.specs.Geometry.{Blocks}
 

@@ -1,7 +1,7 @@
 -- Histories: what happened on a machine, as a list of entries.
 --
--- A history is kept the oldest entry first. What an entry finds is defined over the past, which is the
--- same list the newest entry first: there the last entry that touches a piece of state comes first.
+-- A history has its oldest entry first. State before an entry is defined over the past, which is the same list with its
+-- newest entry first: there the last entry that touches a piece of state is the first one found.
 use Rattle.std.specs.Prelude.{ℕ, List, take, reverse, filter}
 use Rattle.acpi_regs.specs.declared.actor.Actor.{Actor}
 use Rattle.acpi_regs.specs.declared.entry.Entry.{Entry}
@@ -11,7 +11,7 @@ use Rattle.acpi_regs.specs.Actor.{same_actor}
 abbrev pub before : List Entry → ℕ → List Entry
 before history i = take i history
 
--- the past of entry i: what stands before it, the newest first
+-- the past of entry i: the entries before it, the newest first
 abbrev pub past_of : List Entry → ℕ → List Entry
 past_of history i = reverse (before history i)
 

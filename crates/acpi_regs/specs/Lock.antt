@@ -1,7 +1,6 @@
--- The Global Lock as a history tells it (ACPI 6.5, section 5.2.10.1): who owns it, who competes for it, and who was
--- signalled.
+-- The Global Lock by its history (ACPI 6.5, section 5.2.10.1): who owns it, who competes for it, and who was signalled.
 --
--- Each piece of state is told by the last entry of the past that touches it.
+-- The last entry of the past that touches a piece of state decides it.
 use Rattle.std.specs.Prelude.{ℕ, ◌+◌, Bool, true, false, List, [], ◌∷◌, Option, Some, None, if◌then◌else◌}
 use Rattle.acpi_regs.specs.declared.actor.Actor.{Actor}
 use Rattle.acpi_regs.specs.declared.actor.Side.{Side}
@@ -34,17 +33,18 @@ abbrev pub seeker : Side → List Entry → Option Actor
 seeker s [] = None
 seeker s (e ∷ past) = seeker_after s e.actor e.deed (seeker s past)
 
--- the actor is this one
+-- there is an actor, and it is this one
 abbrev pub is_someone : Actor → Option Actor → Bool
 is_someone a None = false
 is_someone a (Some b) = same_actor a b
 
 -- ---- what an actor has done since its seek
 
--- a word on an actor that its own entries alone decide
+-- a fact about an actor that its own entries alone decide
 abbrev pub own_word : (Deed → Bool → Bool) → Actor → List Entry → Bool
 own_word after a [] = false
-own_word after a (e ∷ past) = if same_actor a e.actor then after e.deed (own_word after a past) else own_word after a past
+own_word after a (e ∷ past) =
+    if same_actor a e.actor then after e.deed (own_word after a past) else own_word after a past
 
 -- it has owned since its seek
 abbrev pub owned_after : Deed → Bool → Bool
@@ -76,8 +76,8 @@ is_busy a past = own_word busy_after a past
 
 -- ---- signals
 
--- The wake of the OS is set by a claim of the Global Lock's event, that of the firmware by a signalling leave of a worker.
--- A woken of a side clears its wake.
+-- A claim of the Global Lock's event sets the wake of the OS. A signalling leave of a worker sets the wake of the
+-- firmware. A woken of a side clears its wake.
 abbrev pub wake_after : Side → Actor → Deed → Bool → Bool
 wake_after s a deed.Woken old = if stands_on s a then false else old
 wake_after side.Os a (deed.Claim n) old = if is_gbl n then true else old
@@ -88,8 +88,8 @@ abbrev pub wake : Side → List Entry → Bool
 wake s [] = false
 wake s (e ∷ past) = wake_after s e.actor e.deed (wake s past)
 
--- The Global Lock's event has status: a raise, latch or assert of it and a signalling leave of the firmware set it (BIOS_RLS
--- sets GBL_STS), and a claim of it clears it.
+-- The status of the Global Lock's event: a raise, latch or assert of it sets it, and so does a signalling leave of the
+-- firmware (BIOS_RLS sets GBL_STS). A claim of the event clears it.
 abbrev pub gbl_after : Actor → Deed → Bool → Bool
 gbl_after a (deed.Raise n) old = if is_gbl n then true else old
 gbl_after a (deed.Latch n) old = if is_gbl n then true else old
@@ -116,7 +116,7 @@ abbrev pub busies_in : Deed → ℕ
 busies_in deed.Busy = 1
 busies_in _ = 0
 
--- how many entries of a side a count finds
+-- the sum of a count over the entries of a side
 abbrev pub count_on : (Deed → ℕ) → Side → List Entry → ℕ
 count_on count s [] = 0
 count_on count s (e ∷ past) = (if stands_on s e.actor then count e.deed else 0) + count_on count s past

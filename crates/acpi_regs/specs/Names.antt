@@ -4,7 +4,7 @@ use Rattle.std.specs.Prelude.{◌≡◌, ◌↔◌, ℕ, ◌+◌, ◌-◌, ◌*�
 use Rattle.acpi_regs.specs.declared.name.MethodName.{MethodName}
 use Rattle.acpi_regs.specs.declared.name.MethodName.TheVariants as name
 
--- the code of the digit of a number below 16, `0` to `9` and `A` to `F`
+-- the hexadecimal digit of a number below 16, by its ASCII code: `0` to `9` and `A` to `F`
 abbrev pub digit : ℕ → ℕ
 digit n = if nat_lt n 10 then 48 + n else 55 + n
 
@@ -23,9 +23,11 @@ IsName (name.Level n) = n < 256
 IsName (name.Edge n) = n < 256
 IsName (name.Query q) = (0 < q) × (q < 256)
 
--- the value of a digit
+-- the value of a hexadecimal digit
 abbrev pub digit_of : ℕ → Option ℕ
-digit_of c = if nat_le 48 c && nat_le c 57 then Some (c - 48) else (if nat_le 65 c && nat_le c 70 then Some (c - 55) else None)
+digit_of c =
+    if nat_le 48 c && nat_le c 57 then Some (c - 48)
+    else (if nat_le 65 c && nat_le c 70 then Some (c - 55) else None)
 
 -- the byte of two digits
 abbrev pub byte_of : ℕ → ℕ → Option ℕ
@@ -44,9 +46,10 @@ lettered letter n =
 
 -- the name that a text spells
 abbrev pub name_in : List ℕ → Option MethodName
-name_in (underscore ∷ letter ∷ high ∷ low ∷ []) = if underscore == 95 then option_and_then (lettered letter) (byte_of high low) else None
+name_in (underscore ∷ letter ∷ high ∷ low ∷ []) =
+    if underscore == 95 then option_and_then (lettered letter) (byte_of high low) else None
 name_in _ = None
 
--- a text is the name that its reading gives, spelled
+-- a text is read as a name exactly if it is the spelling of that name
 abbrev pub SpellsNames : Type 0
 SpellsNames = (text : List ℕ) (n : MethodName) → (name_in text ≡ Some n) ↔ (IsName n × (text ≡ spelling n))

@@ -93,7 +93,7 @@ abbrev pub carried_code : Option ℕ → ℕ
 carried_code None = 0
 carried_code (Some byte) = 1 + 256 * byte
 
--- a GPE by its number, and a fixed event behind the GPEs by its place in the order of events
+-- a GPE by its number, and a fixed event after the GPEs by its place in the order of events
 abbrev pub event_code : Event → ℕ
 event_code (event.Gpe n) = n
 event_code (event.Fixed f) = 256 + fixed_rank f
@@ -183,11 +183,11 @@ IsPackable e = IsSeat e.actor × IsDeed e.deed
 
 -- ---- reading a code
 
--- what a number says: nothing if it is no code of an A in range, else the one A in range whose code it is
+-- what a number decodes to: none if it is the code of no A in range, else the one A in range whose code it is
 abbrev pub Decodes : (A : Type 0) → (A → Type 0) → (A → ℕ) → ℕ → Option A → Type 0
 Decodes A Is code n None = (x : A) → Is x → code x ≡ n → ⊥
 Decodes A Is code n (Some x) = Is x × (code x ≡ n) × ((y : A) → Is y → code y ≡ n → y ≡ x)
 
--- two entries in range with one packing are one entry
+-- two entries in range with the same packing are the same entry
 abbrev pub PacksApart : Type 0
 PacksApart = (a b : Entry) → IsPackable a → IsPackable b → packing a ≡ packing b → a ≡ b

@@ -1,4 +1,4 @@
--- Where each actor stands between its steps, and how the lock's entries move it (ACPI 6.5, section 5.2.10.1).
+-- The phase of each actor between its steps, and how the lock's entries change it (ACPI 6.5, section 5.2.10.1).
 use Rattle.std.specs.Prelude.{ℕ, Bool, true, false, List, [], Option, Some, None, if◌then◌else◌}
 use Rattle.acpi_regs.specs.declared.actor.Actor.{Actor}
 use Rattle.acpi_regs.specs.declared.actor.Actor.TheVariants as actor
@@ -10,8 +10,8 @@ use Rattle.acpi_regs.specs.declared.phase.LockPhase.TheVariants as phase
 use Rattle.acpi_regs.specs.declared.phase.Pulse.{Pulse}
 use Rattle.acpi_regs.specs.Actor.{same_actor}
 
--- A worker's or a firmware's towards the lock. Int's and poll's: free, or holding the turn with the pin words that were
--- collected and the events in hand. A device's pulses so far, the oldest first. The controller is always free.
+-- Workers and firmware are in a phase of the lock. Int and poll are free, or hold the turn with the pin words that were
+-- collected and the events in hand. A device has its pulses so far, the oldest first. The controller is always free.
 pub data Phase : Type 0 where
   Lock : LockPhase → Phase
   Free : Phase
@@ -24,7 +24,7 @@ first_phase (actor.Firmware k) = Lock phase.Idle
 first_phase (actor.Device k) = Pulsed []
 first_phase _ = Free
 
--- the phases, where one actor's is changed
+-- the phases, with one actor's changed
 abbrev pub put : Actor → Phase → (Actor → Phase) → Actor → Phase
 put a p phases b = if same_actor a b then p else phases b
 
@@ -64,7 +64,7 @@ is_gone true (phase.Gone true) = true
 is_gone false (phase.Gone false) = true
 is_gone _ _ = false
 
--- the entries that a phase allows: one of the lock's at most, and every other
+-- the entries that a phase allows: at most one of the lock's, and all others
 abbrev pub allows : LockPhase → Deed → Bool
 allows p deed.Seek = is_idle p
 allows p deed.Busy = is_marked p

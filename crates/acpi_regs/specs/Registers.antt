@@ -1,5 +1,5 @@
--- The status and enable bits of all events in 17 registers of 16 bits: register 0 has the fixed events by their PM1 bits
--- (ACPI 6.5, section 4.8.3.1), and each register behind it has 16 GPEs by number (ACPI 6.5, section 4.8.4.1).
+-- The status and enable bits of all events in 17 registers of 16 bits. Register 0 has the fixed events by their PM1
+-- bits (ACPI 6.5, section 4.8.3.1). Each later register has 16 GPEs by number (ACPI 6.5, section 4.8.4.1).
 use Rattle.std.specs.Prelude.{ℕ, ◌+◌, ◌/◌, ◌%◌}
 use Rattle.acpi_regs.specs.declared.event.Event.{Event}
 use Rattle.acpi_regs.specs.declared.event.Event.TheVariants as event

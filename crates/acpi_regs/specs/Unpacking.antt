@@ -1,5 +1,6 @@
--- A word of 64 bits read as an entry, step by step (own): what `unpack` computes. What it means is `Decodes` of Packing.
-use Rattle.std.specs.Prelude.{ℕ, ◌-◌, ◌/◌, ◌%◌, ◌==◌, Bool, true, false, nat_lt, Option, Some, None, if◌then◌else◌}
+-- A word of 64 bits read as an entry, step by step (own). This is what `unpack` computes; `Decodes` of Packing says
+-- what it means.
+use Rattle.std.specs.Prelude.{ℕ, ◌-◌, ◌/◌, ◌%◌, ◌==◌, true, false, nat_lt, Option, Some, None, if◌then◌else◌}
 use Rattle.acpi_regs.specs.declared.actor.Actor.{Actor}
 use Rattle.acpi_regs.specs.declared.actor.Actor.TheVariants as actor
 use Rattle.acpi_regs.specs.declared.entry.Cell.{Cell}

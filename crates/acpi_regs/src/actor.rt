@@ -10,8 +10,7 @@ pub enum Side {
     Firmware,
 }
 
-/// One simulated thread of control. The order of the variants, and then of the numbers, is the order in
-/// which actors are served.
+/// One simulated thread of control. Actors are served in the order of the variants, and then of their numbers.
 #[derive(Clone, Copy, Debug, PartialEq, Eq, PartialOrd, Ord)]
 pub enum Actor {
     /// The OS's interrupt handler.
@@ -29,7 +28,7 @@ pub enum Actor {
 }
 
 impl Actor {
-    /// The side on which the actor competes for the Global Lock. The controller and the devices have none.
+    /// The side for which the actor competes for the Global Lock; `None` for the controller and the devices.
     pub fn side(self) -> Option<Side>
         ensures { result ≡ side_of self }
     {

@@ -3,9 +3,9 @@ use crate::{Actor, Event};
 /// A byte of a region.
 #[derive(Clone, Copy, Debug, PartialEq, Eq)]
 pub struct Cell {
-    /// The index of the region in the description.
+    /// The region's index in the description.
     pub region: u8,
-    /// Counted from the region's start.
+    /// The byte's distance from the start of the region.
     pub offset: u16,
 }
 
@@ -53,15 +53,15 @@ pub enum Effect {
 pub enum Deed {
     /// It competes for the Global Lock for its side.
     Seek,
-    /// It found the lock owned, and waits for the signal.
+    /// It found the lock owned and waits for the signal.
     Busy,
-    /// It was signalled, and tries again.
+    /// It was signalled and tries again.
     Woken,
     /// It owns the lock.
     Own,
     /// It is about to release the lock.
     Disown,
-    /// It released the lock; whether it found the other side waiting and signalled it.
+    /// It released the lock. True if the other side was waiting, which it then signalled.
     Leave(bool),
     /// It read this byte from a cell.
     Read(Cell, u8),
@@ -73,7 +73,7 @@ pub enum Deed {
     Step(HostMove),
     /// The controller made a move.
     Ctl(Effect),
-    /// The requester closed its transaction, with the byte that it carries.
+    /// The requester closed its transaction and took this byte from it, if the request returns one.
     Take(Option<u8>),
     /// The firmware put a query code into the controller's list.
     Push(u8),
@@ -87,15 +87,15 @@ pub enum Deed {
     Drop(Event),
     /// The OS took an event's status for dispatch.
     Claim(Event),
-    /// A worker started this job.
+    /// A worker started the job of this number.
     Start(u32),
-    /// A worker finished this job.
+    /// A worker finished the job of this number.
     Finish(u32),
-    /// A handler notified a device object, with this value.
+    /// A handler notified the device object of this index, with this value.
     Notify(u8, u8),
-    /// A handler counted one more reference to an event.
+    /// A handler added one reference to an event.
     Up(Event),
-    /// A handler counted one reference less.
+    /// A handler removed one reference from an event.
     Down(Event),
 }
 

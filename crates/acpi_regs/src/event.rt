@@ -7,7 +7,7 @@ use crate::Pm1Bits;
 /// A fixed event of the PM1 registers (ACPI 6.5, section 4.8.3.1), in the order in which events are served.
 #[derive(Clone, Copy, Debug, PartialEq, Eq, PartialOrd, Ord)]
 pub enum Fixed {
-    /// The power management timer carried.
+    /// The power management timer overflowed.
     Tmr,
     /// The firmware released the Global Lock and the OS was waiting for it.
     Gbl,
@@ -33,7 +33,7 @@ impl Fixed {
         }
     }
 
-    /// The same as a flag of the PM1 registers.
+    /// The same bit as a flag of the PM1 registers.
     pub fn flag(self) -> Pm1Bits
         ensures { pm1_bits result ≡ 2 ^ fixed_bit self }
     {
@@ -57,13 +57,13 @@ pub enum Event {
     Gpe(u8),
 }
 
-/// An event that a description lists: with its handler's kind and how many references hold it enabled at first.
+/// An event that a description lists, with its trigger mode and its initial count of references.
 #[derive(Clone, Copy, Debug, PartialEq, Eq)]
 pub struct Listed {
     /// The event.
     pub event: Event,
     /// Whether the event is level-triggered, which only a GPE may be (ACPI 6.5, section 5.6.4.1).
     pub level: bool,
-    /// The count with which the event starts. It is enabled while its count is above 0.
+    /// The initial count of references. The event is enabled while its count is above 0.
     pub refs: u8,
 }

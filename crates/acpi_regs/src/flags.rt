@@ -3,8 +3,8 @@ ghost use Rattle.acpi_regs.specs.Flags.{ec_bits, ec_flags, pm1_bits, pm1_flags};
 
 use bitflags::{Flag, Flags, bitflag_items};
 
-/// Bits of the PM1 status and enable registers (ACPI 6.5, sections 4.8.3.1.1 and 4.8.3.1.2). In the status register
-/// a set bit says that the event happened, and writing a one clears it. `WAK` is a bit of the status register alone.
+/// Bits of the PM1 status and enable registers (ACPI 6.5, sections 4.8.3.1.1 and 4.8.3.1.2). A set bit of the status
+/// register says that the event happened, and writing a one clears it. `WAK` exists in the status register only.
 #[derive(Clone, Copy, Debug, PartialEq, Eq)]
 pub struct Pm1Bits(u16);
 
@@ -43,9 +43,9 @@ impl Flags for Pm1Bits {
 
 /// The status register EC_SC of the embedded controller, as the host reads it (ACPI 6.5, section 12.2.1).
 ///
-/// `OBF` stands while the controller's output waits for the host, `IBF` while the host's byte waits for the controller.
-/// `CMD` tells whether the last byte written was a command. `BURST` stands in burst mode, and `SCI_EVT` while a query
-/// code is outstanding.
+/// `OBF` is set while the controller's output waits for the host, `IBF` while the host's byte waits for the controller.
+/// `CMD` is set if the last byte written was a command. `BURST` is set in burst mode, and `SCI_EVT` while a query code
+/// is outstanding.
 #[derive(Clone, Copy, Debug, PartialEq, Eq)]
 pub struct EcStatus(u8);
 

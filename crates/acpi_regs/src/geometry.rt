@@ -12,14 +12,14 @@ pub enum GeometryField {
     Base1,
 }
 
-/// Two GPE blocks can't be as they are described.
+/// The description of two GPE blocks is wrong.
 #[derive(Clone, Copy, Debug, PartialEq, Eq)]
 pub struct BadGeometry {
     /// The first of the three numbers that is wrong.
     pub field: GeometryField,
 }
 
-/// Where the status bit of a GPE stands.
+/// Where the status bit of a GPE is (ACPI 6.5, section 4.8.4.1).
 #[derive(Clone, Copy, Debug, PartialEq, Eq)]
 pub struct GpePlace {
     /// 0 for the first block, 1 for the second.
@@ -44,10 +44,11 @@ impl GpeGeometry {
     ghost use Rattle.acpi_regs.specs.Geometry.{end_of, place_in};
     ghost use Rattle.acpi_regs.specs.GeometryParts.{blocks_of};
 
-    /// The blocks of these lengths in bytes, the second beginning with event `gpe1_base`.
+    /// The blocks of these lengths in bytes. The first event of the second is `gpe1_base`.
     ///
-    /// It answers the first number that is wrong: `Gpe0` where `gpe0_len` is odd or above 64; `Gpe1` where `gpe1_len`
-    /// is; `Base1` where there is a second block, and it begins below the end of the first or ends above event 255.
+    /// # Errors
+    /// The first number that is wrong: `Gpe0` if `gpe0_len` is odd or above 64; `Gpe1` if `gpe1_len` is; `Base1` if the
+    /// second block is not empty and begins before the end of the first or ends after event 255.
     pub fn new(gpe0_len: u16, gpe1_base: u16, gpe1_len: u16) -> Result<GpeGeometry, BadGeometry>
         ensures { MatchResult result
             (λ g. (blocks_of g ≡ record { gpe0 = gpe0_len; base1 = gpe1_base; gpe1 = gpe1_len })
@@ -77,7 +78,7 @@ impl GpeGeometry {
         })
     }
 
-    /// Where the status bit of this GPE stands, or `None` where the GPE is in no block.
+    /// Where the status bit of this GPE is; `None` exactly if the GPE is in no block.
     pub fn place_of(&self, event: u8) -> Option<GpePlace>
         ensures { result ≡ place_in (blocks_of self.now) event }
     {
@@ -100,7 +101,7 @@ impl GpeGeometry {
         })
     }
 
-    /// The greatest GPE of the two blocks plus 1, or 0 where there is none; at most 256.
+    /// The greatest GPE of the two blocks plus 1, or 0 if they have no GPE; at most 256.
     pub fn end(&self) -> u16
         ensures value { result ≡ end_of (blocks_of self.now) }
         ensures bound { result ≤ 256 }
@@ -113,7 +114,7 @@ impl GpeGeometry {
     }
 }
 
-/// A block's length in bytes is even, and at most 64.
+/// Whether a block's length in bytes is odd or above 64.
 fn is_bad_length(len: u16) -> bool
     ensures { result ≡ is_bad_length len }
 {

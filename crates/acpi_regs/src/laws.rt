@@ -38,7 +38,7 @@ use crate::{
     HostMove, Listed, LockPhase, Memory, MethodName, NotAName, Pm1Bits, Pulse, Request, Side,
 };
 
-/// Two values are `==` exactly where they are the same.
+/// `==` holds between two values exactly if they are the same.
 pub fn law_equality()
     ensures side { IsExact Side (side_eq.ghosts).eq }
     ensures actor { IsExact Actor (actor_eq.ghosts).eq }
@@ -63,28 +63,28 @@ pub fn law_equality()
     ensures ec_status { IsExact EcStatus (ec_status_eq.ghosts).eq }
 {}
 
-/// `same_event` and `same_actor`, by which definitions compare, hold exactly where both values are the same.
+/// `same_event` and `same_actor`, by which definitions compare, hold exactly if the two values are the same.
 pub fn law_same()
     ensures event { IsExact Event same_event }
     ensures actor { IsExact Actor same_actor }
 {}
 
-/// Fixed events come first, in ascending order of their PM1 bits, then GPEs by number. Actors come by
-/// kind, in the order in which [`Actor`] lists them, then by number.
+/// Fixed events come first, in ascending order of their PM1 bits, then GPEs by number. Actors are ordered by kind, as
+/// [`Actor`] lists them, then by number.
 pub fn law_order()
     ensures fixed { OrdersBy Fixed fixed_rank (fixed_ord.ghosts).cmp }
     ensures event { OrdersBy Event event_rank (event_ord.ghosts).cmp }
     ensures actor { OrdersByKind (actor_ord.ghosts).cmp }
 {}
 
-/// A text spells a name exactly where it is that name's spelling. So no two names have one, and to parse what was
-/// spelled gives the name.
+/// A text is read as a name exactly if it is that name's spelling. So no two names have the same spelling, and a
+/// spelled name is parsed as itself.
 pub fn law_names()
     ensures { SpellsNames }
 {}
 
-/// The place of a GPE is a bit of its block's status register, the event that stands there is that GPE, and each such bit
-/// has its GPE. No GPE from the end of the blocks on has a place, and the one before it has one.
+/// The place of a GPE is a bit of its block's status register, the event at that place is the GPE, and each such bit
+/// has its GPE. A GPE at or after the end of the blocks has no place, and the one before the end has one.
 pub fn law_places()
     ensures events { PlacesEvents }
     ensures fills { FillsPlaces }

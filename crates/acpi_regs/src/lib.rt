@@ -1,16 +1,17 @@
 //! Registers, names and journal entries of the ACPI event core.
 //!
-//! Every other crate speaks of a machine in the words of this one: fixed events and the flags of the PM1 registers, GPEs
-//! and the blocks in which they stand, the names of methods, the status of the embedded controller, actors, and the
-//! entries of a history. It stands on `bitflags` and `facs_word`. An entry is what one actor did in one step, and a history is a
-//! list of entries, the oldest first.
+//! All other crates use the types of this one: fixed events and the flags of the PM1 registers, GPEs and their blocks,
+//! the names of methods, the status of the embedded controller, actors, and the entries of a history. An entry is what
+//! one actor did in one step, and a history is a list of entries, the oldest first. The crate depends on `bitflags` and
+//! `facs_word`.
 //!
-//! The contracts cite the tables of ACPI in `specs/` (`Event`, `Geometry`, `Names`), and the crates above cite the
-//! definitions of histories there: the entries of one actor, the owner and the seekers of the Global Lock, its signals, and
-//! the side on which an actor stands. So they do for what actors share between their steps: the core, with each actor's
-//! phase (`Core`, `Phases`), what may happen to it in one atomic step (`CoreEvents`), and when it is sound (`CoreSound`).
-//! [`laws`] has what follows from the definitions: `==` holds between equal values alone, events and actors come in their
-//! order, names and places fit each other, and each step leads from a sound core to a sound one.
+//! The contracts cite the tables of ACPI in `specs/` (`Event`, `Geometry`, `Names`). The crates above also cite the
+//! definitions of histories there: the entries of one actor, the owner and the seekers of the Global Lock, its signals,
+//! and the side of an actor. They cite the core that actors share between their steps, with each actor's phase (`Core`,
+//! `Phases`), what may happen to it in one atomic step (`CoreEvents`), and when it is sound (`CoreSound`).
+//!
+//! [`laws`] has what follows from the definitions: `==` holds exactly between equal values, events and actors are
+//! ordered, names and places are read back as they were written, and each step leads from a sound core to a sound one.
 #![tactic(auto)]
 
 mod actor;

@@ -2,7 +2,7 @@ use std::alloc::{AllocError, AllocFailed};
 use std::error::Error;
 use std::fmt;
 
-/// Memory ran out. The call that answers it has handed nothing out.
+/// The error of a call that ran out of memory. Such a call has created nothing.
 #[derive(Clone, Copy, Debug, PartialEq, Eq)]
 pub struct Memory;
 

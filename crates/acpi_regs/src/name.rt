@@ -13,13 +13,15 @@ pub enum MethodName {
     Query(u8),
 }
 
-/// A text is no name of a method that handles an event.
+/// The error for a text that is not the name of a method that handles an event.
 #[derive(Clone, Copy, Debug, PartialEq, Eq)]
 pub struct NotAName;
 
 impl MethodName {
-    /// Reads `_Lxx`, `_Exx` or `_Qxx`, where xx is two upper-case hexadecimal digits. It answers `NotAName` for every
-    /// other text, and for `_Q00`, since query code 0 means that no event is outstanding.
+    /// Reads `_Lxx`, `_Exx` or `_Qxx`, where xx is two upper-case hexadecimal digits (ACPI 6.5, section 5.6.4.1).
+    ///
+    /// # Errors
+    /// `NotAName` for every other text, and for `_Q00`: query code 0 means that no event is outstanding.
     pub fn parse(text: &[u8]) -> Result<MethodName, NotAName>
         ensures { result_ok result ≡ name_in text.now }
     {
@@ -32,7 +34,7 @@ impl MethodName {
         }
     }
 
-    /// The text of the name. A query's code is not 0.
+    /// The text of the name. Requires that a query's code is not 0.
     pub fn spell(self) -> [u8; 4]
         requires { IsName self }
         ensures { result ≡ spelling self }
@@ -51,6 +53,7 @@ impl MethodName {
     }
 }
 
+/// The name with this letter and number.
 fn named(letter: u8, number: u8) -> Result<MethodName, NotAName>
     ensures { result_ok result ≡ lettered letter number }
 {
@@ -62,7 +65,7 @@ fn named(letter: u8, number: u8) -> Result<MethodName, NotAName>
     }
 }
 
-/// The byte of two hexadecimal digits, which are upper-case; `None` where one is no such digit.
+/// The byte of two upper-case hexadecimal digits; `None` exactly if one of the two is not such a digit.
 pub fn byte_named(high: u8, low: u8) -> Option<u8>
     ensures { result ≡ byte_of high low }
 {
@@ -71,6 +74,7 @@ pub fn byte_named(high: u8, low: u8) -> Option<u8>
     Some(16 * high + low)
 }
 
+/// The value of an upper-case hexadecimal digit, by its ASCII code.
 fn digit_value(byte: u8) -> Option<u8>
     ensures value { result ≡ digit_of byte }
     ensures bound { IfSome result (λ n. n < 16) }
@@ -82,7 +86,7 @@ fn digit_value(byte: u8) -> Option<u8>
     }
 }
 
-/// The hexadecimal digit of a number below 16, upper-case.
+/// The upper-case hexadecimal digit of a number, as its ASCII code. Requires a number below 16.
 pub fn digit_byte(number: u8) -> u8
     requires { number < 16 }
     ensures { result ≡ digit number }

@@ -25,7 +25,7 @@ impl Event {
         }
     }
 
-    /// The event at a place of that order. Requires a place below 261.
+    /// The event at a place of that order. Requires that the place is below 261.
     pub fn at_rank(rank: u16) -> Event
         requires { rank < 261 }
         ensures is { result ≡ event_at rank }

@@ -26,8 +26,19 @@ const FIRST: Event = Event::Gpe(0);
 
 const LAST: Event = Event::Fixed(Fixed::Rtc);
 
+/// Whether the word of a deed has this place of the enum and this payload, and is read as that deed; and whether the
+/// other payload is that of no deed of that place.
+fn is_word_of(deed: Deed, place: u64, payload: u64, refused: u64) -> bool {
+    let actor = Actor::Poll;
+    let word: u64 = 1 | (place << 8) | (payload << 16);
+    let neighbour: u64 = 1 | (place << 8) | (refused << 16);
+    packed(actor, deed) == Some(word)
+        && Entry::unpack(word) == Some(Entry { actor, deed })
+        && Entry::unpack(neighbour).is_none()
+}
+
 #[test]
-fn each_deed_has_its_words_and_a_neighbour_that_is_no_entry(rt: HostRuntime) {
+fn deeds_of_the_lock_and_of_cells_have_their_words(rt: HostRuntime) {
     // The deed; its place in the enum; its payload; a payload that no deed of that place has.
     let rows = [
         (Deed::Seek, 0, 0, 1),
@@ -41,6 +52,15 @@ fn each_deed_has_its_words_and_a_neighbour_that_is_no_entry(rt: HostRuntime) {
         (Deed::Read(HIGH, 255), 6, 0xFFFF_FFFF, 0x1_0000_0000),
         (Deed::Write(LOW, 0), 7, 0, 0x1_0000_0000),
         (Deed::Write(HIGH, 255), 7, 0xFFFF_FFFF, 0x1_0000_0000),
+    ];
+    for (deed, place, payload, refused) in rows {
+        assert!(rt; is_word_of(deed, place, payload, refused));
+    }
+}
+
+#[test]
+fn deeds_of_the_controller_have_their_words(rt: HostRuntime) {
+    let rows = [
         (Deed::Begin(Request::Rd(0)), 8, 0, 0x1_0000),
         (Deed::Begin(Request::Rd(255)), 8, 0xFF00, 0x1_FF00),
         (Deed::Begin(Request::Wr(0, 0)), 8, 1, 0x100_0001),
@@ -64,6 +84,15 @@ fn each_deed_has_its_words_and_a_neighbour_that_is_no_entry(rt: HostRuntime) {
         (Deed::Take(Some(255)), 11, 0xFF01, 0x1_0001),
         (Deed::Push(0), 12, 0, 256),
         (Deed::Push(255), 12, 255, 256),
+    ];
+    for (deed, place, payload, refused) in rows {
+        assert!(rt; is_word_of(deed, place, payload, refused));
+    }
+}
+
+#[test]
+fn deeds_of_events_and_jobs_have_their_words(rt: HostRuntime) {
+    let rows = [
         (Deed::Raise(FIRST), 13, 0, 261),
         (Deed::Raise(LAST), 13, 260, 261),
         (Deed::Latch(FIRST), 14, 0, 261),
@@ -86,12 +115,7 @@ fn each_deed_has_its_words_and_a_neighbour_that_is_no_entry(rt: HostRuntime) {
         (Deed::Down(LAST), 22, 260, 261),
     ];
     for (deed, place, payload, refused) in rows {
-        let actor = Actor::Poll;
-        let word: u64 = 1 | (place << 8) | (payload << 16);
-        let neighbour: u64 = 1 | (place << 8) | (refused << 16);
-        assert_eq!(rt; packed(actor, deed), Some(word));
-        assert_eq!(rt; Entry::unpack(word), Some(Entry { actor, deed }));
-        assert_eq!(rt; Entry::unpack(neighbour), None);
+        assert!(rt; is_word_of(deed, place, payload, refused));
     }
 }
 

@@ -3,15 +3,15 @@ ghost use Rattle.acpi_regs.specs.Phases.{allows, is_idle, lock_deed, moved};
 
 use crate::{Deed, Event};
 
-/// Where a worker or a firmware stands towards the Global Lock (ACPI 6.5, section 5.2.10.1).
+/// What a worker or a firmware thread is doing with the Global Lock (ACPI 6.5, section 5.2.10.1).
 ///
-/// A load and an exchange of the lock's word lead from `Seeking` to `Won` or to `Marked`; a release leads from `Quit` to
-/// `Gone`. Each other step is an entry.
+/// A load and an exchange of the lock's word lead from `Seeking` to `Won` or to `Marked`. A release leads from `Quit`
+/// to `Gone`. Every other change of phase is an entry.
 #[derive(Clone, Copy, Debug, PartialEq, Eq)]
 pub enum LockPhase {
     /// It does not compete.
     Idle,
-    /// It competes; the word that it has loaded, if any.
+    /// It competes, and has loaded this word, if any.
     Seeking(Option<u32>),
     /// Its exchange found the lock owned, and set Pending.
     Marked,
@@ -23,12 +23,12 @@ pub enum LockPhase {
     Owning,
     /// It has disowned the lock, and is about to release the word.
     Quit,
-    /// It has released the word; whether it found Pending there.
+    /// It has released the word. True if Pending was set there.
     Gone(bool),
 }
 
 impl LockPhase {
-    /// Whether the phase allows an entry. Each allows one of the lock's entries at most, and every other entry.
+    /// Whether the phase allows an entry. A phase allows at most one of the lock's entries, and all other entries.
     pub fn allows(self, deed: Deed) -> bool
         ensures { result ≡ allows self deed }
     {
@@ -73,7 +73,7 @@ impl LockPhase {
         }
     }
 
-    /// Whether it does not compete.
+    /// Whether the actor does not compete.
     pub fn is_idle(self) -> bool
         ensures { result ≡ is_idle self }
     {

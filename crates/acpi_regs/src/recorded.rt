@@ -5,27 +5,28 @@ ghost use Rattle.acpi_regs.specs.declared.event.Event.{Event};
 
 use crate::{Entry, Event};
 
-/// What a journal stands on, as far as the words that actors share ask: the pulse lists of its devices.
+/// The part of a machine that the shared words need: the pulse lists of its devices.
 pub trait PulseLists {
     /// The list of each device, by its number.
     ghost lists: { Self → List (List Event) };
 
-    /// The events that a device pulses, in order. A number without a list has the empty one.
+    /// The events that a device pulses, in order; none if the device has no list.
     fn pulses(&self, device: u8) -> &[Event]
         ensures { result.now ≡ list_of (lists self.now) device };
 }
 
-/// A journal of entries, which a table of shared words keeps and hands to one actor at a time.
+/// A journal of entries, which a table of shared words keeps and lends to one actor at a time.
 pub trait Recorded {
+    /// The machine whose entries these are.
     type Base: PulseLists;
 
-    /// What the journal stands on, which no turn changes.
+    /// The journal's machine, which no turn changes.
     ghost base: { Self → Self.Base };
 
     /// Its entries, the oldest first.
     ghost entries: { Self → List Entry };
 
-    /// How many entries it has.
+    /// The number of entries.
     fn len(&self) -> u32
         ensures { result ≡ length (entries self.now) };
 }

@@ -251,7 +251,7 @@ impl Entry {
     ghost use Rattle.acpi_regs.specs.Packing.{Decodes, IsPackable, packing};
     ghost use Rattle.acpi_regs.specs.declared.entry.Entry.{Entry};
 
-    /// The entry whose packing a word is; `None` exactly if the word is the packing of no entry in range.
+    /// The entry that [`Entry::pack`] writes as this word; `None` exactly if the word is that of no entry in range.
     pub fn unpack(word: u64) -> Option<Entry>
         ensures stands { Decodes Entry IsPackable packing word result }
         ensures reads { result ≡ at.entry_at word }

@@ -1,11 +1,11 @@
 -- Bits of words, and the words that two sets share.
-use Rattle.std.proofs.Common.{◌≡◌, ◌≢◌, inl, inr, ℕ, ◌<◌, ◌≤◌, ◌==◌, ◌+◌, ◌*◌, ◌/◌, ◌%◌, ◌&&◌, Bool, true, false, List, length, slice_set, slice_index, if◌then◌else◌, refl, arith, ◌^◌, bit_or, bit_and, w16, w32, get_or, get_or-set_other, ap, sym, ◌∙◌, zero, suc, min, not, Some, None}
-use Rattle.std.proofs.lemmas.Bool.{cases_eq, cases_lt, ne_eqb, eq-eqb}
+use Rattle.std.proofs.Common.{◌≡◌, ◌≢◌, inl, inr, ℕ, ◌<◌, ◌==◌, ◌+◌, ◌*◌, ◌/◌, ◌%◌, ◌&&◌, Bool, true, false, List, length, slice_set, slice_index, if◌then◌else◌, refl, arith, ◌^◌, bit_or, bit_and, w16, w32, get_or, get_or-set_other, ap, sym, ◌∙◌, zero, suc, min, not, Some, None}
+use Rattle.std.proofs.lemmas.Bool.{cases_eq, cases_lt, ne_eqb, eq-eqb, eqb-true}
 use Rattle.std.proofs.lemmas.Grind.{get_or-set_at}
-use Rattle.std.proofs.lemmas.Nat.Bits.{bit_at_and, bit_at-lt, bit_at-zero, bit_at_set_same, bit_at_set_other, bit_at_clear_same, bit_at_clear_other}
+use Rattle.std.proofs.lemmas.Nat.Bits.{bit_at_and, bit_at-lt, bit_at-zero, bit_at_set_same, bit_at_set_other, bit_at_clear_same, bit_at_clear_other, same_from_bits}
 use Rattle.std.proofs.lemmas.List.{get_or_past}
 use Rattle.std.specs.Int.{bit_at, bit_not}
-use Rattle.event_chip.specs.Places.{IsFirstPlace, IsSummary, has, meets, one, shares}
+use Rattle.event_chip.specs.Places.{IsFirstPlace, IsSummary, IsWithin, has, meets, one, shares}
 
 -- a word with one bit set, and with one cleared
 pub bit_set : (n k i : ℕ) → k < 16 → i < 16 → bit_at (bit_or n (1 * 2 ^ k % 2 ^ 16)) i ≡ (if i == k then 1 else bit_at n i)
@@ -137,3 +137,100 @@ some_first s e m k b is l clear lb set below =
           ∙ ap (λ j. bit_at (bit_and (get_or s j 0) (get_or e j 0)) (q % 16) == 1) same
           ∙ ap (λ x. x == 1) (below (q % 16) low)
     ]
+
+-- ---- words that grew or shrank
+
+-- a bit of a word of 16 bits is set, and no other changes
+pub set_grows : (n k : ℕ) → k < 16 → IsWithin n (bit_or n (1 * 2 ^ k % 2 ^ 16))
+set_grows n k h i at = elim (cases_eq i k) [
+  | inl e ↦ ap (bit_at (bit_or n (1 * 2 ^ k % 2 ^ 16))) e ∙ bit_at_set_same w16 n k h
+  | inr d ↦ bit_at_set_other w16 n k h i d ∙ at
+]
+
+pub and_shrinks : (n m : ℕ) → IsWithin (bit_and n m) n
+and_shrinks n m i at = low (bit_at n i) (bit_at m i) (bit_at-lt n i) (sym (bit_at_and n m i) ∙ at)
+  where
+    low : (x y : ℕ) → x < 2 → min x y ≡ 1 → x ≡ 1
+    low x y l e = omega (arith, l, e)
+
+-- words that share a bit still do once their bits are within those of others
+pub still_shares : (s e s' e' : List ℕ) (k : ℕ) → IsWithin (slice_index s k) (slice_index s' k) → IsWithin (slice_index e k) (slice_index e' k) → shares s e k ≡ true → shares s' e' k ≡ true
+still_shares s e s' e' k ws we some = elim (cases_eq (bit_and (get_or s' k 0) (get_or e' k 0)) 0) [
+  | inr d ↦ ap not (ne_eqb (bit_and (get_or s' k 0) (get_or e' k 0)) 0 d)
+  | inl none ↦ absurd (apart (bit_and (get_or s k 0) (get_or e k 0)) (same_from_bits (bit_and (get_or s k 0) (get_or e k 0)) 0 (λ i. clear i none)) some)
+]
+  where
+    apart : (x : ℕ) → x ≡ 0 → not (x == 0) ≡ true → ⊥
+    apart zero e h = cc
+    apart (suc x) e h = cc
+
+    both : (a b a' b' : ℕ) → a < 2 → b < 2 → (a ≡ 1 → a' ≡ 1) → (b ≡ 1 → b' ≡ 1) → min a' b' ≡ 0 → min a b ≡ 0
+    both zero b a' b' la lb fa fb z = omega arith
+    both (suc a) zero a' b' la lb fa fb z = omega arith
+    both (suc a) (suc b) a' b' la lb fa fb z =
+        let one_a : suc a ≡ 1 = omega (arith, la) in
+        let one_b : suc b ≡ 1 = omega (arith, lb) in
+        let x = fa one_a in
+        let y = fb one_b in
+        absurd (omega (arith, x, y, z))
+
+    clear : (i : ℕ) → bit_and (get_or s' k 0) (get_or e' k 0) ≡ 0 → bit_at (bit_and (get_or s k 0) (get_or e k 0)) i ≡ bit_at 0 i
+    clear i none =
+        bit_at_and (get_or s k 0) (get_or e k 0) i
+        ∙ both (bit_at (get_or s k 0) i) (bit_at (get_or e k 0) i) (bit_at (get_or s' k 0) i) (bit_at (get_or e' k 0) i) (bit_at-lt (get_or s k 0) i) (bit_at-lt (get_or e k 0) i) (ws i) (we i)
+        (sym (bit_at_and (get_or s' k 0) (get_or e' k 0) i) ∙ ap (λ x. bit_at x i) none ∙ bit_at-zero i)
+        ∙ sym (bit_at-zero i)
+
+-- a mark that is added where the words share a bit, when bits were set
+pub summary_grown : (s e s' e' : List ℕ) (m m' k : ℕ)
+    → ((j : ℕ) → (j == k) ≡ false → slice_index s' j ≡ slice_index s j)
+    → ((j : ℕ) → (j == k) ≡ false → slice_index e' j ≡ slice_index e j)
+    → (shares s e k ≡ true → shares s' e' k ≡ true)
+    → ((j : ℕ) → j < 32 → bit_at m' j ≡ (if (j == k) && shares s' e' k then 1 else bit_at m j))
+    → IsSummary s e m → IsSummary s' e' m'
+summary_grown s e s' e' m m' k same_s same_e grows bits old =
+    summary_kept s e s' e' m m' k same_s same_e (λ j l. bits j l ∙ at j l (j == k) refl) old
+  where
+    here : (a b : Bool) (x : ℕ) → x ≡ one a → (a ≡ true → b ≡ true) → (if b then 1 else x) ≡ one b
+    here a true x is grow = refl
+    here true false x is grow = absurd (let z = grow refl in cc)
+    here false false x is grow = is
+
+    at : (j : ℕ) → j < 32 → (b : Bool) → (j == k) ≡ b → (if b && shares s' e' k then 1 else bit_at m j) ≡ (if b then one (shares s' e' k) else bit_at m j)
+    at j l false n = refl
+    at j l true y = here (shares s e k) (shares s' e' k) (bit_at m j) (old j l ∙ ap (λ i. one (shares s e i)) (eqb-true j k y)) grows
+
+-- a mark that is dropped where the words share no bit, when bits were cleared
+pub summary_shrunk : (s e s' e' : List ℕ) (m m' k : ℕ)
+    → ((j : ℕ) → (j == k) ≡ false → slice_index s' j ≡ slice_index s j)
+    → ((j : ℕ) → (j == k) ≡ false → slice_index e' j ≡ slice_index e j)
+    → (shares s' e' k ≡ true → shares s e k ≡ true)
+    → ((j : ℕ) → j < 32 → bit_at m' j ≡ (if (j == k) && not (shares s' e' k) then 0 else bit_at m j))
+    → IsSummary s e m → IsSummary s' e' m'
+summary_shrunk s e s' e' m m' k same_s same_e shrinks bits old =
+    summary_kept s e s' e' m m' k same_s same_e (λ j l. bits j l ∙ at j l (j == k) refl) old
+  where
+    here : (a b : Bool) (x : ℕ) → x ≡ one a → (b ≡ true → a ≡ true) → (if not b then 0 else x) ≡ one b
+    here a false x is shrink = refl
+    here true true x is shrink = is
+    here false true x is shrink = absurd (let z = shrink refl in cc)
+
+    at : (j : ℕ) → j < 32 → (b : Bool) → (j == k) ≡ b → (if b && not (shares s' e' k) then 0 else bit_at m j) ≡ (if b then one (shares s' e' k) else bit_at m j)
+    at j l false n = refl
+    at j l true y = here (shares s e k) (shares s' e' k) (bit_at m j) (old j l ∙ ap (λ i. one (shares s e i)) (eqb-true j k y)) shrinks
+
+-- one word is written
+pub set_up : (words : List ℕ) (j w : ℕ) → j < length words → IsWithin (slice_index words j) w → (k : ℕ) → IsWithin (slice_index words k) (slice_index (slice_set words j w) k)
+set_up words j w h within k = elim (cases_eq k j) [
+  | inl e ↦ λ i at. ap (λ x. bit_at x i) (get_or-set_at words j k w 0 e h) ∙ within i (ap (λ x. bit_at (get_or words x 0) i) (sym e) ∙ at)
+  | inr d ↦ λ i at. ap (λ x. bit_at x i) (get_or-set_other words j k w 0 d) ∙ at
+]
+
+pub set_down : (words : List ℕ) (j w : ℕ) → j < length words → IsWithin w (slice_index words j) → (k : ℕ) → IsWithin (slice_index (slice_set words j w) k) (slice_index words k)
+set_down words j w h within k = elim (cases_eq k j) [
+  | inl e ↦ λ i at. ap (λ x. bit_at (get_or words x 0) i) e ∙ within i (sym (ap (λ x. bit_at x i) (get_or-set_at words j k w 0 e h)) ∙ at)
+  | inr d ↦ λ i at. sym (ap (λ x. bit_at x i) (get_or-set_other words j k w 0 d)) ∙ at
+]
+
+pub stays_within : (n : ℕ) → IsWithin n n
+stays_within n i at = at

@@ -1,5 +1,5 @@
 -- The places of events: each event's bit stands for it alone, and bits come in the order of events.
-use Rattle.std.proofs.Common.{◌≡◌, ◌≢◌, inl, inr, ℕ, ◌<◌, ◌≤◌, ◌==◌, ◌+◌, ◌-◌, ◌/◌, ◌%◌, ◌*◌, ◌&&◌, Bool, true, false, List, [], ◌∷◌, length, Some, None, Option, replicate, slice_set, get_or, if◌then◌else◌, nat_lt, refl, arith, rules, get_or-set_other, ap, sym, subst, ◌∙◌, zero, suc, not, bit_and}
+use Rattle.std.proofs.Common.{◌≡◌, ◌≢◌, inl, inr, ℕ, ◌<◌, ◌≤◌, ◌==◌, ◌+◌, ◌/◌, ◌%◌, ◌*◌, ◌&&◌, Bool, true, false, List, length, Some, None, slice_set, get_or, if◌then◌else◌, refl, arith, get_or-set_other, ap, sym, subst, ◌∙◌, zero, suc, not, bit_and}
 use Rattle.std.proofs.lemmas.Grind.{get_or-set_at}
 use Rattle.std.proofs.lemmas.Bool.{cases_eq, cases_lt, ne_eqb, eq-eqb}
 use Rattle.std.proofs.lemmas.Bool.Decides.{nat_tests}

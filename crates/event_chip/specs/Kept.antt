@@ -1,4 +1,4 @@
--- What a chip keeps beside its slots: the status and enable bits of all events, in words.
+-- What a chip keeps as well as its slots: the status and enable bits of all events, in words.
 use Rattle.std.specs.Prelude.{◌≡◌, ℕ, ◌<◌, Bool, false, List, length, slice_index_or}
 use Rattle.event_chip.specs.declared.state.Slot.{Slot}
 use Rattle.event_chip.specs.Chip.{no_slot}

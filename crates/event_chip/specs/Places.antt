@@ -9,6 +9,10 @@ one b = if b then 1 else 0
 abbrev pub has : List ℕ → ℕ → Bool
 has words p = bit_at (slice_index words (p / 16)) (p % 16) == 1
 
+-- each bit that is set in a word is set in the other
+abbrev pub IsWithin : (a b : ℕ) → Type 0
+IsWithin a b = (i : ℕ) → bit_at a i ≡ 1 → bit_at b i ≡ 1
+
 -- the rank of the event whose bit is at a place: 261, where no event is, if the bit belongs to no event
 abbrev pub rank_in : ℕ → ℕ
 rank_in p =

@@ -1,8 +1,9 @@
--- The registers of one event, and what each touch does to them (ACPI 6.5, sections 4.8.3.1, 4.8.4.1, 5.6.4 and 5.6.4.1).
+-- The registers of one event, and what each touch does to them (ACPI 6.5, sections 4.8.3.1, 4.8.4.1, 5.6.4 and
+-- 5.6.4.1).
 --
--- A status bit says that the event happened. A level event has a line besides: while it is asserted the event is not
--- over. An event is held from its claim to the end of its handler, which is where an OS masks its source. Sixteen runs
--- in a row that end under an asserted line park the event.
+-- A status bit says that the event happened. A level event also has a line: while it is asserted the event is not over.
+-- An event is held from its claim to the end of its handler, while an OS masks its source. Sixteen runs in a row that
+-- end under an asserted line park the event.
 use Rattle.std.specs.Prelude.{ℕ, ◌+◌, ◌-◌, ◌&&◌, ◌||◌, not, Bool, true, false, min, nat_le, nat_lt, List, [], ◌∷◌, if◌then◌else◌}
 use Rattle.event_chip.specs.declared.state.EventKind.{EventKind}
 use Rattle.event_chip.specs.declared.state.EventKind.TheVariants as kind
@@ -28,11 +29,11 @@ is_always kind.Edge = false
 is_always kind.Level = false
 is_always kind.Always = true
 
--- an event with so many references, before anything happened
+-- an event with this many references, before anything happened
 abbrev pub fresh : (count : ℕ) → EventState
 fresh count = record { status = false; line = false; held = false; count = count; storm = 0 }
 
--- ---- what a touch leaves
+-- ---- the state after a touch
 
 abbrev pub raised : EventState → EventState
 raised s = record s { status = true }
@@ -47,9 +48,14 @@ dropped s = record s { line = false; storm = 0 }
 abbrev pub claimed : EventKind → EventState → EventState
 claimed k s = record s { held = is_listed k; status = is_level k && s.status }
 
--- a finish lets the event go; a level status becomes the line, and each run that ends under an asserted line counts
+-- after a finish the event is not held; a level status becomes the line, and a run that ends under an asserted line
+-- is counted
 abbrev pub finished : EventKind → EventState → EventState
-finished k s = record s { held = false; status = if is_level k then s.line else s.status; storm = if s.line then min 16 (s.storm + 1) else 0 }
+finished k s = record s {
+  held = false;
+  status = if is_level k then s.line else s.status;
+  storm = if s.line then min 16 (s.storm + 1) else 0;
+}
 
 abbrev pub upped : EventState → EventState
 upped s = record s { count = min 255 (s.count + 1) }

@@ -1,5 +1,6 @@
 ghost use Rattle.std.specs.Prelude.{◌≡◌, ◌<◌, ◌||◌, IfOk, ℕ, false, if◌then◌else◌, length, slice_index, slice_index_or};
 ghost use Rattle.acpi_regs.specs.Event.{event_rank, is_gbl, same_event};
+ghost use Rattle.acpi_regs.specs.Registers.{place_of};
 ghost use Rattle.event_chip.specs.Chip.{always, first_slot, is_controllers, listing, no_slot, slot_of, slot_or};
 ghost use Rattle.event_chip.specs.Kept.{IsQuiet, Shows, enables};
 ghost use Rattle.event_chip.specs.Places.{rank_in};
@@ -18,12 +19,12 @@ const EVENTS: usize = 261;
 #[derive(Drop)]
 pub struct EventChip {
     slots: Vec<Slot>,
-    // The status and enable bits of all events, which the slots say too.
+    // The status and enable bits of all events, which follow from the slots.
     words: Words,
 }
 
-/// A status word and an enable word: the fixed events by their PM1 bits, or sixteen GPEs (ACPI 6.5, sections 4.8.3.1 and
-/// 4.8.4.1).
+/// A status word and an enable word: the fixed events by their PM1 bits, or sixteen GPEs (ACPI 6.5, sections 4.8.3.1
+/// and 4.8.4.1).
 #[derive(Clone, Copy, Debug, PartialEq, Eq)]
 pub struct EventWord {
     /// The events that have status.
@@ -52,9 +53,12 @@ impl EventChip {
     ghost use Rattle.event_chip.specs.Words.{IsWord};
     ghost use Rattle.event_chip.specs.declared.state.Touch.TheVariants as touch;
 
-    /// The chip of a machine that lists these events, with the controller's event where it has a controller. Nothing
-    /// has happened yet. Where an event is listed twice the first counts; the Global Lock's event and the
-    /// controller's are always enabled, listed or not.
+    /// The chip of a machine that lists these events, with the controller's event if it has a controller. Nothing has
+    /// happened yet. If an event is listed twice, the first item counts. The Global Lock's event and the controller's
+    /// are always enabled, listed or not.
+    ///
+    /// # Errors
+    /// `Memory` if an allocation fails.
     pub fn new(
         alloc: Global,
         listed: &[Listed],
@@ -72,27 +76,28 @@ impl EventChip {
         Ok(EventChip { slots, words })
     }
 
-    /// What is known of an event, and its registers.
+    /// The kind of an event and its registers.
     pub fn slot(&self, event: Event) -> Slot
         ensures { result ≡ slot_of self.now event }
     {
         self.slots[rank_of(event)]
     }
 
-    /// Touches an event. Each call below is one touch, under the condition on which a machine makes it.
+    /// Touches an event, whatever its state. Each call below is one touch, with the condition under which a machine
+    /// makes it.
     #[inline(always)]
     pub fn touch(&mut self, touch: Touch, event: Event)
         ensures { Touches touch event self.old self.new }
     {
+        let place = place_at(event);
         let rank = rank_of(event);
-        let slot = self.slots[rank];
-        let after = slot.after(touch);
-        self.slots[rank] = after;
-        let place = usize::from(event.register_place());
-        self.words.follow(touch, place, slot, after);
+        let old = self.slots[rank];
+        let new = self.slots[rank].touch(touch);
+        self.words.follow(touch, place, old, new);
     }
 
-    /// The event happened: its status is set. The chip knows the event, which its `slot` tells.
+    /// The event happened: its status is set (ACPI 6.5, sections 4.8.3.1 and 4.8.4.1). Requires that the kind of its
+    /// `slot` is not `Unknown`.
     #[inline(always)]
     pub fn raise(&mut self, event: Event)
         requires { IsKnown self.old event }
@@ -101,7 +106,8 @@ impl EventChip {
         self.touch(Touch::Raise, event)
     }
 
-    /// The line of a level event (`slot(event).kind.is_level()`) was asserted: its status is set, and runs are counted anew.
+    /// The line of an event was asserted: its status is set, and its runs are counted from 0. Requires a level event
+    /// (`slot(event).kind.is_level()`).
     #[inline(always)]
     pub fn assert_line(&mut self, event: Event)
         requires { IsLevel self.old event }
@@ -110,7 +116,8 @@ impl EventChip {
         self.touch(Touch::Assert, event)
     }
 
-    /// The line of a level event (`slot(event).kind.is_level()`) was dropped. Its status stays until the event's run ends.
+    /// The line of an event was dropped. Its status stays until the event's run ends. Requires a level event
+    /// (`slot(event).kind.is_level()`).
     #[inline(always)]
     pub fn drop_line(&mut self, event: Event)
         requires { IsLevel self.old event }
@@ -119,8 +126,8 @@ impl EventChip {
         self.touch(Touch::Drop, event)
     }
 
-    /// The OS takes the status of an event that is `pending` for dispatch. A listed event is held; the status is cleared
-    /// unless the event is level.
+    /// The OS takes an event for dispatch (ACPI 6.5, section 5.6.4). A listed event is then held. The status is cleared
+    /// unless the event is level. Requires that the event is `pending`.
     #[inline(always)]
     pub fn claim(&mut self, event: Event)
         requires { pends self.old event ≡ true }
@@ -129,8 +136,9 @@ impl EventChip {
         self.touch(Touch::Claim, event)
     }
 
-    /// A run of the handler of an event that is held ended: the event is held no longer, and a level status becomes its line. A run that
-    /// ends under an asserted line is counted, up to sixteen, and any other sets that count to 0.
+    /// A run of the event's handler ended: the event is no longer held, and a level status becomes its line. A run that
+    /// ends under an asserted line is counted, up to sixteen. Any other run sets that count to 0. Requires that the
+    /// event is held.
     #[inline(always)]
     pub fn finish(&mut self, event: Event)
         requires { (slot_of self.old event).state.held ≡ true }
@@ -139,7 +147,7 @@ impl EventChip {
         self.touch(Touch::Finish, event)
     }
 
-    /// One reference more to a listed event (`slot(event).kind.is_listed()`), up to 255.
+    /// Adds one reference to an event, up to 255. Requires a listed event (`slot(event).kind.is_listed()`).
     #[inline(always)]
     pub fn up(&mut self, event: Event)
         requires { IsListed self.old event }
@@ -148,7 +156,7 @@ impl EventChip {
         self.touch(Touch::Up, event)
     }
 
-    /// One reference less to a listed event (`slot(event).kind.is_listed()`), down to 0.
+    /// Removes one reference from an event, down to 0. Requires a listed event (`slot(event).kind.is_listed()`).
     #[inline(always)]
     pub fn down(&mut self, event: Event)
         requires { IsListed self.old event }
@@ -162,10 +170,10 @@ impl EventChip {
     pub fn pending(&self, event: Event) -> bool
         ensures { result ≡ pends self.now event }
     {
-        self.words.meets(usize::from(event.register_place()))
+        self.words.meets(place_at(event))
     }
 
-    /// The first event, in the order in which events are served, that has status and is enabled; `None` exactly where no
+    /// The first event, in the order in which events are served, that has status and is enabled; `None` exactly if no
     /// event is pending.
     #[inline(always)]
     pub fn first_pending(&self) -> Option<Event>
@@ -174,8 +182,8 @@ impl EventChip {
         Some(event_in(self.words.first()?))
     }
 
-    /// The status and enable bits of the fixed events (k is 0) or of GPEs 16 (k - 1) to 16 (k - 1) + 15. Requires k below
-    /// 17. A bit of no event, or of an event that the chip does not know, is 0 in both.
+    /// The status and enable bits of the fixed events (k is 0) or of GPEs 16 (k - 1) to 16 (k - 1) + 15. A bit of no
+    /// event, or of an event that the chip does not know, is 0 in both. Requires k below 17.
     pub fn words(&self, k: u8) -> EventWord
         requires { k < 17 }
         ensures status { IsWord is_set self.now k result.status }
@@ -201,7 +209,7 @@ impl EventChip {
         self.slot(event).state.count
     }
 
-    /// Whether sixteen runs of a level event in a row ended under its asserted line.
+    /// Whether at least sixteen runs in a row of a level event ended under its asserted line.
     pub fn parked(&self, event: Event) -> bool
         ensures { result ≡ is_parked (slot_of self.now event).kind (slot_of self.now event).state }
     {
@@ -209,7 +217,7 @@ impl EventChip {
     }
 }
 
-/// The slots of a chip at its start, and in `enable`, which is empty before, which events are enabled then.
+/// The slots of a chip at its start. `enable` is empty before, and has the bits of the enabled events after.
 fn first_slots(
     alloc: Global,
     enable: &mut Places,
@@ -227,7 +235,7 @@ fn first_slots(
     Ok(slots)
 }
 
-/// Writes the slots of all events that a machine knows, where every slot is that of an unknown event.
+/// Writes the slots of all events that a machine knows. Requires that each slot is that of an unknown event.
 fn write_known(
     slots: &mut [Slot],
     enable: &mut Places,
@@ -268,7 +276,7 @@ fn write_always(slots: &mut [Slot], enable: &mut Places, controller: Option<Even
     }
 }
 
-/// Writes the slots of listed events, the last item first, so that the first that lists an event counts.
+/// Writes the slots of listed events, the last item first, so that the first item of an event counts.
 fn write_listed(slots: &mut [Slot], enable: &mut Places, listed: &[Listed])
     requires { length slots.old ≡ 261 }
     ensures quiet { IsQuiet slots.old → IsQuiet slots.new }
@@ -281,7 +289,7 @@ fn write_listed(slots: &mut [Slot], enable: &mut Places, listed: &[Listed])
     }
 }
 
-/// Writes the slot and the enable bit of one event to which nothing happened.
+/// Writes the slot and the enable bit of an event that has not happened.
 fn write(slots: &mut [Slot], enable: &mut Places, event: Event, slot: Slot)
     requires size { length slots.old ≡ 261 }
     requires fresh { slot.state.status ≡ false }
@@ -290,10 +298,11 @@ fn write(slots: &mut [Slot], enable: &mut Places, event: Event, slot: Slot)
     ensures slots { (n : Event) → slot_of slots.new n ≡ (if same_event event n then slot else slot_of slots.old n) }
 {
     slots[rank_of(event)] = slot;
-    enable.set(usize::from(event.register_place()), slot.is_enabled());
+    enable.set(place_at(event), slot.is_enabled());
 }
 
 /// The place of an event in the order in which events are served, from 0 to 260.
+#[inline(always)]
 pub fn rank_of(event: Event) -> usize
     ensures value { result ≡ event_rank event }
     ensures bound { result < 261 }
@@ -301,7 +310,20 @@ pub fn rank_of(event: Event) -> usize
     usize::from(event.rank())
 }
 
+/// The place of the event's bit, from 0 to 271.
+#[inline(always)]
+fn place_at(event: Event) -> usize
+    ensures value { result ≡ place_of event }
+    ensures bound { result < 272 }
+{
+    match event {
+        Event::Fixed(fixed) => usize::from(fixed.bit()),
+        Event::Gpe(number) => 16 + usize::from(number),
+    }
+}
+
 /// The event whose bit is at a place.
+#[inline(always)]
 fn event_in(place: usize) -> Event
     requires { rank_in place < 261 }
     ensures { event_rank result ≡ rank_in place }

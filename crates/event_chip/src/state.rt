@@ -36,7 +36,7 @@ impl EventKind {
 /// The registers of one event.
 #[derive(Clone, Copy, Debug)]
 pub struct EventState {
-    /// The event happened, and was not claimed since.
+    /// The event's status bit.
     pub status: bool,
     /// The line of a level event is asserted.
     pub line: bool,
@@ -48,7 +48,7 @@ pub struct EventState {
     pub storm: u8,
 }
 
-/// What the chip has of one event.
+/// What the chip keeps of one event.
 #[derive(Clone, Copy, Debug)]
 pub struct Slot {
     /// How it is enabled and handled.
@@ -70,14 +70,14 @@ pub enum Touch {
     Claim,
     /// A run of its handler ended.
     Finish,
-    /// One reference more.
+    /// A reference was added.
     Up,
-    /// One reference less.
+    /// A reference was removed.
     Down,
 }
 
 impl Slot {
-    /// An event of this kind and with so many references, before anything happened.
+    /// The slot of an event of this kind and with this many references, before anything happened.
     pub fn fresh(kind: EventKind, count: u8) -> Slot
         ensures { result ≡ record { kind = kind; state = fresh count } }
     {
@@ -91,7 +91,7 @@ impl Slot {
         Slot { kind, state }
     }
 
-    /// A listed event, at the start.
+    /// The slot of a listed event at the start.
     pub fn listed(item: &Listed) -> Slot
         ensures { result ≡ listed_slot item.now }
     {
@@ -103,39 +103,22 @@ impl Slot {
         Slot::fresh(kind, item.refs)
     }
 
-    /// What is there after a touch.
+    /// The slot after a touch.
     pub fn after(self, touch: Touch) -> Slot
         ensures { result ≡ touched touch self }
     {
-        let Slot { kind, state } = self;
-        let state = match touch {
-            Touch::Raise => EventState {
-                status: true,
-                ..state
-            },
-            Touch::Assert => EventState {
-                status: true,
-                line: true,
-                storm: 0,
-                ..state
-            },
-            Touch::Drop => EventState {
-                line: false,
-                storm: 0,
-                ..state
-            },
-            Touch::Claim => state.claimed(kind),
-            Touch::Finish => state.finished(kind),
-            Touch::Up => EventState {
-                count: state.count.saturating_add(1),
-                ..state
-            },
-            Touch::Down => EventState {
-                count: state.count.saturating_sub(1),
-                ..state
-            },
-        };
-        Slot { kind, state }
+        let mut slot = self;
+        slot.touch(touch)
+    }
+
+    /// Touches the event, and returns its slot after that. It writes the fields that change and no others.
+    #[inline(always)]
+    pub fn touch(&mut self, touch: Touch) -> Slot
+        ensures new { self.new ≡ touched touch self.old }
+        ensures value { result ≡ touched touch self.old }
+    {
+        self.state.touch(self.kind, touch);
+        *self
     }
 
     /// Whether the event has status and is enabled.
@@ -153,7 +136,7 @@ impl Slot {
         counted && !self.state.held && !self.is_parked()
     }
 
-    /// Whether sixteen runs in a row ended under an asserted line.
+    /// Whether at least sixteen runs in a row of a level event ended under its asserted line.
     pub fn is_parked(self) -> bool
         ensures { result ≡ is_parked self.kind self.state }
     {
@@ -162,35 +145,54 @@ impl Slot {
 }
 
 impl EventState {
+    /// Touches an event of this kind.
+    #[inline(always)]
+    fn touch(&mut self, kind: EventKind, touch: Touch)
+        ensures { self.new ≡ after kind touch self.old }
+    {
+        match touch {
+            Touch::Raise => self.status = true,
+            Touch::Assert => {
+                self.status = true;
+                self.line = true;
+                self.storm = 0;
+            }
+            Touch::Drop => {
+                self.line = false;
+                self.storm = 0;
+            }
+            Touch::Claim => self.claim(kind),
+            Touch::Finish => self.finish(kind),
+            Touch::Up => self.count = self.count.saturating_add(1),
+            Touch::Down => self.count = self.count.saturating_sub(1),
+        }
+    }
+
     // The OS clears an edge status when it takes the event, so that a raise during the run is seen after it. A level
     // status is cleared after the run, when the handler has made the device drop its line.
-    fn claimed(self, kind: EventKind) -> EventState
-        ensures { result ≡ after kind Touch.Claim self }
+    #[inline(always)]
+    fn claim(&mut self, kind: EventKind)
+        ensures { self.new ≡ after kind Touch.Claim self.old }
     {
-        EventState {
-            held: kind.is_listed(),
-            status: kind.is_level() && self.status,
-            ..self
+        self.held = kind.is_listed();
+        if !kind.is_level() {
+            self.status = false;
         }
     }
 
     // A line that is still asserted sets the status again at once.
-    fn finished(self, kind: EventKind) -> EventState
-        ensures { result ≡ after kind Touch.Finish self }
+    #[inline(always)]
+    fn finish(&mut self, kind: EventKind)
+        ensures { self.new ≡ after kind Touch.Finish self.old }
     {
-        EventState {
-            held: false,
-            status: if kind.is_level() {
-                self.line
-            } else {
-                self.status
-            },
-            storm: if self.line {
-                self.storm.saturating_add(1).min(16)
-            } else {
-                0
-            },
-            ..self
+        self.held = false;
+        self.storm = if self.line {
+            self.storm.saturating_add(1).min(16)
+        } else {
+            0
+        };
+        if kind.is_level() {
+            self.status = self.line;
         }
     }
 }

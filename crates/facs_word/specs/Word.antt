@@ -1,4 +1,5 @@
--- The word of the Global Lock (ACPI 6.5, section 5.2.10.1): bit 0 is Pending, bit 1 is Owned, and bits 31:2 are reserved.
+-- The word of the Global Lock (ACPI 6.5, section 5.2.10.1): bit 0 is Pending, bit 1 is Owned, and bits 31:2 are
+-- reserved.
 use Rattle.std.specs.Prelude.{◌≡◌, ℕ, ◌+◌, ◌*◌, ◌/◌, ◌%◌, ◌≤◌, ◌↔◌, Bool, true, false, ◌==◌, ◌||◌, if◌then◌else◌}
 use Rattle.std.specs.Int.{bit_at}
 
@@ -12,16 +13,16 @@ is_pending word = (word % 4 == 1) || (word % 4 == 3)
 abbrev pub reserved : ℕ → ℕ
 reserved word = word / 4 * 4
 
--- the word that a try to take the lock leaves: Owned alone where the lock was free, both bits where it was owned
+-- the word after an attempt to take the lock: Owned alone if the lock was free, both bits if it was owned
 abbrev pub acquired : ℕ → ℕ
 acquired word = reserved word + (if is_owned word then 3 else 2)
 
--- the word that a release leaves
+-- the word after a release
 abbrev pub released : ℕ → ℕ
 released word = reserved word
 
--- A word by its bits: Pending is bit 0 and Owned bit 1. Acquiring sets Owned, and sets Pending exactly where the word was
--- owned; releasing clears both.
+-- A word by its bits: Pending is bit 0 and Owned is bit 1. An attempt sets Owned, and sets Pending exactly if the word
+-- was owned. A release clears both.
 pub record HasBits (word : ℕ) : Type 0 where
   pub pending : is_pending word ≡ true ↔ bit_at word 0 ≡ 1
   pub owned : is_owned word ≡ true ↔ bit_at word 1 ≡ 1

@@ -5,7 +5,7 @@ ghost use Rattle.facs_word.specs.Word.{HasBits, KeepsReserved};
 
 use crate::FacsFault;
 
-/// The four values of the word are those of its two bits.
+/// For a word below 4, Owned and Pending are its two bits, and an attempt and a release change them as defined.
 pub fn law_word_bits()
     ensures { (word : ℕ) → word ≤ 3 → HasBits word }
 {}
@@ -15,7 +15,7 @@ pub fn law_keeps_reserved()
     ensures { (word : ℕ) → KeepsReserved word }
 {}
 
-/// A table that was read is written as the first 64 bytes that it was read from, and these read as that table.
+/// A table that was read has the first 64 bytes that it was read from, and reads as itself.
 pub fn law_reads_back()
     ensures { (bytes table : List ℕ) → ReadsBack bytes table }
 {}
@@ -26,7 +26,7 @@ pub fn law_fresh()
     ensures free { lock_of fresh_table ≡ 0 }
 {}
 
-/// Two faults are equal exactly if `==` says so.
+/// `==` holds between two faults exactly if they are the same.
 pub fn law_same_fault(one: FacsFault, other: FacsFault) -> bool
     ensures { IsTrue result ↔ one ≡ other }
 {

@@ -5,7 +5,7 @@ ghost use Rattle.facs_word.specs.Table.{fresh_table, lock_of, reads};
 use std::marker::Model;
 use thiserror::Error;
 
-/// Why bytes are no FACS.
+/// Why bytes are not a FACS. It is displayed as the name of its variant.
 #[derive(Clone, Copy, Debug, PartialEq, Eq, Error)]
 pub enum FacsFault {
     /// There are fewer than 64 bytes.
@@ -14,12 +14,12 @@ pub enum FacsFault {
     /// The first four bytes are not `FACS`.
     #[error("BadSignature")]
     BadSignature,
-    /// The length that the table gives is below 64.
+    /// The length in the table, the 32 bits at byte 4, is below 64.
     #[error("BadLength")]
     BadLength,
 }
 
-/// A FACS, by its first 64 bytes.
+/// A FACS, by its first 64 bytes (ACPI 6.5, section 5.2.10).
 #[derive(Debug, Drop)]
 pub struct Facs {
     bytes: [u8; 64],
@@ -37,7 +37,7 @@ impl Model for Facs {
 }
 
 impl Facs {
-    /// A table of length 64, whose lock is free and in which all else is zero.
+    /// A table of length 64 whose lock is free. All other bytes are zero.
     pub fn fresh() -> Facs
         ensures { result ≡ fresh_table }
     {
@@ -50,11 +50,11 @@ impl Facs {
         Facs { bytes }
     }
 
-    /// The table that `bytes` begin with. Only the first 64 bytes are looked at.
+    /// Reads a table from the first 64 of `bytes`. The others are ignored.
     ///
     /// # Errors
-    /// The first of these: `Short` where there are fewer than 64 bytes, `BadSignature` where the first four are not
-    /// `FACS`, `BadLength` where the length at byte 4 is below 64.
+    /// The first of these that holds: `Short` if there are fewer than 64 bytes, `BadSignature` if the first four are
+    /// not `FACS`, `BadLength` if the length at byte 4 is below 64.
     pub fn read(bytes: &[u8]) -> Result<Facs, FacsFault>
         ensures { result ≡ reads bytes.now }
     {
@@ -81,7 +81,7 @@ impl Facs {
         self.bytes
     }
 
-    /// The word of the Global Lock: the 32 bits at byte 16.
+    /// The word of the Global Lock: the 32 bits at byte 16, the lowest byte first.
     pub fn lock(&self) -> u32
         ensures { result ≡ lock_of self.now }
     {
@@ -93,7 +93,7 @@ impl Facs {
         ])
     }
 
-    /// What is written of a table reads as that table. The call costs nothing: it says so to a caller's proof.
+    /// A table that is written reads as that table. The call costs nothing: callers use its contract in their proofs.
     pub fn law_reads_back(&self)
         ensures { reads self.now ≡ Ok self.now }
     {

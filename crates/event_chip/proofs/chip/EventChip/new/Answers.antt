@@ -1,4 +1,3 @@
-use Rattle.std.proofs.Common.{◌≡◌, sym, ◌∙◌}
 use Rattle.event_chip.proofs.PlaceOrder.{fresh_kept}
 use Rattle.event_chip.proofs.chip.EventChip.new.Goals as goal
 

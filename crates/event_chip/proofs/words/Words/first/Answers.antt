@@ -1,5 +1,5 @@
-use Rattle.std.proofs.Common.{◌≡◌, ◌<◌, ◌==◌, true, rules, arith}
-use Rattle.event_chip.proofs.PlaceBits.{mark_shares, mark_within, no_first, some_first}
+use Rattle.std.proofs.Common.{rules}
+use Rattle.event_chip.proofs.PlaceBits.{mark_within, no_first, some_first}
 use Rattle.event_chip.proofs.words.Words.first.Goals as goal
 
 pub returns-then-self-eq0 : goal.returns-then-self-eq0

@@ -1,4 +1,4 @@
-use Rattle.std.proofs.Common.{◌≡◌, ◌==◌, ◌/◌, ◌%◌, bit_and, get_or, ap, sym, ◌∙◌}
+use Rattle.std.proofs.Common.{◌==◌, ◌/◌, ◌%◌, bit_and, get_or, ap, sym, ◌∙◌}
 use Rattle.std.proofs.lemmas.Nat.Bits.{shr_and_one}
 use Rattle.event_chip.proofs.PlaceBits.{meet_bit}
 use Rattle.event_chip.proofs.words.Words.meets.Goals as goal
