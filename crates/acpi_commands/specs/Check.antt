@@ -41,7 +41,8 @@ abbrev pub complete_text : ℕ → List ℕ
 complete_text n = codes "complete " ++ (decimal n ++ 10 ∷ [])
 
 abbrev pub Judged : List ℕ → (List ℕ → Type 0) → Type 0
-Judged bytes does = (m : MachineData) × (history : List Entry) × IsCompleteLog bytes m history × does (complete_text (length history))
+Judged bytes does = (m : MachineData) × (history : List Entry) × IsCompleteLog bytes m history
+    × does (complete_text (length history))
 
 -- Why the bytes are no complete log. Want of memory is free.
 abbrev pub RefusesLog : List ℕ → Status → Type 0

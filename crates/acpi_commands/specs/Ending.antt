@@ -45,7 +45,8 @@ part_name part.Schedule = codes "Schedule"
 
 -- the rule, the part, and the numbers of the item and of the operation in it
 abbrev pub bad_machine_text : BadMachine → List ℕ
-bad_machine_text bad = rule_name bad.rule ++ (32 ∷ (part_name bad.place.part ++ (32 ∷ (decimal bad.place.index ++ (32 ∷ decimal bad.place.op)))))
+bad_machine_text bad = rule_name bad.rule
+    ++ (32 ∷ (part_name bad.place.part ++ (32 ∷ (decimal bad.place.index ++ (32 ∷ decimal bad.place.op)))))
 
 -- the name of a status
 abbrev pub name_of : Status → List ℕ

@@ -10,14 +10,14 @@ use Rattle.machine_history.specs.Sentences.{ClaimsConsume, JobsDone, codes_of, p
 use Rattle.machine_history.specs.Wire.{given}
 use Rattle.machine_reader.specs.Description.{Describes}
 
--- The codes that were pushed are those that were given, and the k-th of them is that of the k-th run of a query's handler. A
--- query that was answered by 00 starts none.
+-- The codes that were pushed are those that were given, and the k-th of them is that of the k-th run of a query's
+-- handler. A query that was answered by 00 starts none.
 pub record OneRunEach (m : MachineData) (history : List Entry) : Type 0 where
   pub all_given : pushed_in history ≡ given (reverse history)
   pub each_run : given (reverse history) ≡ codes_of (jobs m (reverse history))
 
--- A complete legal history of a machine that bytes describe. No event that has status and is enabled is left, no code, no job,
--- no request for the lock or the controller: that is part of complete.
+-- A complete legal history of a machine that bytes describe. No event that has status and is enabled is left, no
+-- code, no job, no request for the lock or the controller: that is part of complete.
 pub record Ran (bytes : List ℕ) (m : MachineData) (history : List Entry) : Type 0 where
   pub describes : Describes bytes (Ok m)
   pub complete : Complete m history

@@ -31,18 +31,19 @@ ReadsWhole limit left left' bytes = (length bytes ≤ limit) × Consumes left le
 abbrev pub text : MachineData → List Entry → List ℕ
 text m history = log_text m (canonical m) history
 
--- the history that a command writes, where it writes one: of a run any, as its threads took turns; of a replay the one that the
--- machine plays, by its schedule and then in rounds
+-- the history that a command writes, where it writes one: of a run any, as its threads took turns; of a replay the
+-- one that the machine plays, by its schedule and then in rounds
 abbrev pub IsMade : Task → MachineData → List Entry → Type 0
 IsMade task.Run m history = Unit {0}
 IsMade task.Replay m history = Played m history
 IsMade task.Check m history = ⊥
 
--- What a command makes of the bytes that it has read, and does with the text of that. The text is a log which `check` takes for
--- complete, and that of no other machine and history.
+-- What a command makes of the bytes that it has read, and does with the text of that. The text is a log which `check`
+-- takes for complete, and that of no other machine and history.
 abbrev pub Makes : Task → List ℕ → (List ℕ → Type 0) → Type 0
 Makes t bytes does =
-    (m : MachineData) × (history : List Entry) × Ran bytes m history × IsMade t m history × IsCompleteLog (text m history) m history × does (text m history)
+    (m : MachineData) × (history : List Entry) × Ran bytes m history × IsMade t m history
+        × IsCompleteLog (text m history) m history × does (text m history)
 
 -- the status of a fault of the reader
 abbrev pub status_of : ReaderFault → Status
@@ -82,7 +83,8 @@ abbrev pub ByTask : Task → (sink_kept : Type 0) → (left left' held held' : O
 ByTask t sink_kept left left' held held' status.ReadFault = sink_kept × TakesUpTo (limit_of t) left left'
 ByTask t sink_kept left left' held held' status.TooLarge = sink_kept × TakesExactly (limit_of t + 1) left left'
 ByTask t sink_kept left left' held held' status.Memory = sink_kept × TakesUpTo (limit_of t) left left'
-ByTask t sink_kept left left' held held' s = (bytes : List ℕ) × ReadsWhole (limit_of t) left left' bytes × Does t bytes sink_kept held held' s
+ByTask t sink_kept left left' held held' s = (bytes : List ℕ) × ReadsWhole (limit_of t) left left' bytes
+    × Does t bytes sink_kept held held' s
 
 -- Of `make`: the summary of the machine was written, or a front of it; or memory was wanting, and nothing was written.
 abbrev pub Summarizes : (number size : ℕ) → (sink_kept : Type 0) → (held held' : Option (List ℕ)) → Status → Type 0
@@ -92,30 +94,38 @@ Summarizes number size sink_kept held held' status.Memory = sink_kept
 Summarizes number size sink_kept held held' _ = ⊥
 
 -- The same of a command. `make` leaves the source as it was.
-abbrev pub ByCommand : Command → (source_kept sink_kept : Type 0) → (left left' held held' : Option (List ℕ)) → Status → Type 0
+abbrev pub ByCommand : Command → (source_kept sink_kept : Type 0) → (left left' held held' : Option (List ℕ)) → Status
+    → Type 0
 ByCommand (command.Read t) source_kept sink_kept left left' held held' s = ByTask t sink_kept left left' held held' s
-ByCommand (command.Make number size) source_kept sink_kept left left' held held' s = source_kept × Summarizes number size sink_kept held held' s
+ByCommand (command.Make number size) source_kept sink_kept left left' held held' s = source_kept
+    × Summarizes number size sink_kept held held' s
 
 -- the words are a command, which did this
-abbrev pub Obeys : List (String Global) → (source_kept sink_kept : Type 0) → (left left' held held' : Option (List ℕ)) → Status → Type 0
-Obeys words source_kept sink_kept left left' held held' s = (c : Command) × IsCommand words c × ByCommand c source_kept sink_kept left left' held held' s
+abbrev pub Obeys : List (String Global) → (source_kept sink_kept : Type 0) → (left left' held held' : Option (List ℕ))
+    → Status → Type 0
+Obeys words source_kept sink_kept left left' held held' s = (c : Command) × IsCommand words c
+    × ByCommand c source_kept sink_kept left left' held held' s
 
--- The cause of each status, and what it left of the source's bytes and in the sink. Memory may run out while the words are
--- read, where none of them is empty or starts with `-`.
-abbrev pub Answers : List (String Global) → (source_kept sink_kept : Type 0) → (left left' held held' : Option (List ℕ)) → Status → Type 0
-Answers words source_kept sink_kept left left' held held' status.Usage = ((c : Command) → IsCommand words c → ⊥) × source_kept × sink_kept
+-- The cause of each status, and what it left of the source's bytes and in the sink. Memory may run out while the
+-- words are read, where none of them is empty or starts with `-`.
+abbrev pub Answers : List (String Global) → (source_kept sink_kept : Type 0)
+    → (left left' held held' : Option (List ℕ)) → Status → Type 0
+Answers words source_kept sink_kept left left' held held' status.Usage = ((c : Command) → IsCommand words c → ⊥)
+    × source_kept × sink_kept
 Answers words source_kept sink_kept left left' held held' status.Memory =
-    ((are_plain (map string_bytes words) ≡ true) × source_kept × sink_kept) ⊎ Obeys words source_kept sink_kept left left' held held' status.Memory
+    ((are_plain (map string_bytes words) ≡ true) × source_kept × sink_kept)
+        ⊎ Obeys words source_kept sink_kept left left' held held' status.Memory
 Answers words source_kept sink_kept left left' held held' s = Obeys words source_kept sink_kept left left' held held' s
 
 -- the status is Ok, or Memory
 abbrev pub IsOkOrMemory : Status → Type 0
 IsOkOrMemory s = (s ≡ status.Ok) ⊎ (s ≡ status.Memory)
 
--- The words are a command that reads the source, which gives what the command takes, and neither count of faults rose: then the
--- status is Ok, or Memory. So it is where the words are `make`, and the sink's count did not rise.
+-- The words are a command that reads the source, which gives what the command takes, and neither count of faults
+-- rose: then the status is Ok, or Memory. So it is where the words are `make`, and the sink's count did not rise.
 pub record Completes (words : List (String Global)) (left : Option (List ℕ)) (read_rose write_rose : Type 0) (s : Status) : Type 0 where
-  pub reads : (t : Task) (bytes : List ℕ) → IsCommand words (command.Read t) → left ≡ Some bytes → length bytes ≤ limit_of t → IsTaken t bytes → (read_rose → ⊥) → (write_rose → ⊥) → IsOkOrMemory s
+  pub reads : (t : Task) (bytes : List ℕ) → IsCommand words (command.Read t) → left ≡ Some bytes
+      → length bytes ≤ limit_of t → IsTaken t bytes → (read_rose → ⊥) → (write_rose → ⊥) → IsOkOrMemory s
   pub makes : (number size : ℕ) → IsCommand words (command.Make number size) → (write_rose → ⊥) → IsOkOrMemory s
 
 -- the number with which the process ends

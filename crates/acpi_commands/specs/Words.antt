@@ -47,7 +47,8 @@ is_plain (x ∷ rest) = not (x == 45)
 abbrev pub are_plain : List (List ℕ) → Bool
 are_plain texts = list_all is_plain texts
 
--- The words are this command, or no command. Memory may run out while words are read of which none is empty or starts with `-`.
+-- The words are this command, or no command. Memory may run out while words are read of which none is empty or starts
+-- with `-`.
 abbrev pub Commands : List (String Global) → Result Command NoCommand → Type 0
 Commands words (Ok c) = IsCommand words c
 Commands words (Err why.Usage) = (c : Command) → IsCommand words c → ⊥

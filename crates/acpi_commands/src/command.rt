@@ -66,8 +66,8 @@ struct Split<'a> {
 
 /// The command that the words are.
 ///
-/// # Errors
-/// `Usage` only where they are none. `Memory` only where no word is empty or starts with `-`; it may come in place of all else.
+/// # Errors `Usage` only where they are none. `Memory` only where no word is empty or starts with `-`; it may come in
+/// place of all else.
 pub fn command_of(alloc: Global, words: &[String]) -> Result<Command, NoCommand>
     ensures { Commands words.now result }
 {

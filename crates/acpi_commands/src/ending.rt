@@ -22,8 +22,9 @@ use run_checker::rule_name as log_rule_name;
 use std::fmt;
 use std::process::ExitCode;
 
-/// Ends a call of the program: tells a refusal on `errors`, in a line with the name of the status and what it carries, and
-/// gives the exit code. Of `Ok` it says nothing. Where the line can't be written, the number still tells the status.
+/// Ends a call of the program: tells a refusal on `errors`, in a line with the name of the status and what it
+/// carries, and gives the exit code. Of `Ok` it says nothing. Where the line can't be written, the number still tells
+/// the status.
 pub fn end<K: Sink>(status: &Status, errors: &mut K) -> ExitCode
     ensures code { exit_status result ≡ code_of status.now }
     ensures said { AddsFront (K.held errors.old) (K.held errors.new) (error_line status.now) }

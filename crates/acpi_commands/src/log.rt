@@ -16,11 +16,13 @@ use history_laws::laws::{
 };
 use machine_history::laws::{law_complete_legal, law_exclusion, law_reads_last};
 
-/// Of each complete history of a machine that bytes describe every sentence of the headline is true, and its text is a log
-/// that `check` takes for complete.
+/// Of each complete history of a machine that bytes describe every sentence of the headline is true, and its text is
+/// a log that `check` takes for complete.
 pub fn law_log()
-    ensures ran { (bytes : List ℕ) (m : MachineData) (history : List Entry) → Describes bytes (Ok m) → IsMachine m → Complete m history → Ran bytes m history }
-    ensures log { (m : MachineData) (history : List Entry) → IsReadBack m → All IsEntry history → Complete m history → IsCompleteLog (text m history) m history }
+    ensures ran { (bytes : List ℕ) (m : MachineData) (history : List Entry) → Describes bytes (Ok m) → IsMachine m
+        → Complete m history → Ran bytes m history }
+    ensures log { (m : MachineData) (history : List Entry) → IsReadBack m → All IsEntry history → Complete m history
+        → IsCompleteLog (text m history) m history }
 {
     law_complete_legal();
     law_scripts_once();

@@ -12,8 +12,8 @@ use std::alloc::Global;
 use std::thread::Threads;
 use threaded_run::{Prepared, at_rest, prepare_machine, race};
 
-/// Runs the machine of a number and a size, each actor on a thread of its own, and writes the summary of its history to the
-/// sink. Each actor passes the gate before each of its steps.
+/// Runs the machine of a number and a size, each actor on a thread of its own, and writes the summary of its history
+/// to the sink. Each actor passes the gate before each of its steps.
 pub fn make<R: Threads + Sync, K: Sink, G: Gate>(
     rt: &R,
     alloc: Global,

@@ -17,17 +17,19 @@ use std::thread::Threads;
 
 /// Does what the words say, and answers how it went.
 ///
-/// The word `run` reads a description from the source, runs its machine with each actor on a thread of its own, and writes the
-/// log of what happened to the sink. Each actor passes the gate before each step on its thread. The word `replay` runs the
-/// machine on one thread: each name of the description's schedule has a step, and then come rounds. The word `check` reads a
-/// log, judges it, and writes `complete` and the number of its entries where it is complete. The words `make N S` read nothing:
-/// they make the machine of the number N and the size S, run it as `run` does, and write a summary of its history.
+/// The word `run` reads a description from the source, runs its machine with each actor on a thread of its own, and
+/// writes the log of what happened to the sink. Each actor passes the gate before each step on its thread. The word
+/// `replay` runs the machine on one thread: each name of the description's schedule has a step, and then come rounds.
+/// The word `check` reads a log, judges it, and writes `complete` and the number of its entries where it is complete.
+/// The words `make N S` read nothing: they make the machine of the number N and the size S, run it as `run` does, and
+/// write a summary of its history.
 ///
-/// Refusals come in this order: `Usage`; `ReadFault` or `TooLarge`, as the reading meets them; for a description `NotJson`,
-/// `BadShape`, `BadMachine`, `TooLong`, and for a log `BadLog`, `Illegal`, `Unfinished`; `WriteFault`. `Memory` may come in place
-/// of each, before the machine runs or the verdict stands: while the words are read, where none is empty or starts with `-`;
-/// else only where they are a command, no read failed and no more bytes were taken than the command reads. After every refusal but `WriteFault` nothing was written, and after
-/// that one a front of the text was.
+/// Refusals come in this order: `Usage`; `ReadFault` or `TooLarge`, as the reading meets them; for a description
+/// `NotJson`, `BadShape`, `BadMachine`, `TooLong`, and for a log `BadLog`, `Illegal`, `Unfinished`; `WriteFault`.
+/// `Memory` may come in place of each, before the machine runs or the verdict stands: while the words are read, where
+/// none is empty or starts with `-`; else only where they are a command, no read failed and no more bytes were taken
+/// than the command reads. After every refusal but `WriteFault` nothing was written, and after that one a front of
+/// the text was.
 pub fn acpi_events<R: Threads + Sync, S: Source, K: Sink, G: Gate>(
     rt: &R,
     alloc: Global,

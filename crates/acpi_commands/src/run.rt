@@ -12,8 +12,8 @@ use std::alloc::Global;
 use std::thread::Threads;
 use threaded_run::{carry_out, prepare_run, race};
 
-/// Runs the machine that the bytes describe, each actor on a thread of its own, and writes its log to the sink. Each actor
-/// passes the gate before each of its steps.
+/// Runs the machine that the bytes describe, each actor on a thread of its own, and writes its log to the sink. Each
+/// actor passes the gate before each of its steps.
 pub fn run<R: Threads + Sync, K: Sink, G: Gate>(
     rt: &R,
     alloc: Global,

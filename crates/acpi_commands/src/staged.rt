@@ -8,8 +8,8 @@ use machine_desc::Machine;
 use sci_threads::AnyActor;
 use world::SerialWorld;
 
-/// A machine that is ready to be replayed on one thread: the world with its board, its actors at their start, all room taken,
-/// and its canonical text.
+/// A machine that is ready to be replayed on one thread: the world with its board, its actors at their start, all
+/// room taken, and its canonical text.
 #[derive(Drop)]
 pub struct Staged {
     pub machine: Machine,

@@ -29,12 +29,13 @@ pub enum Status {
     Memory,
     /// The source gives more bytes than a description, or a log that is judged, may have.
     TooLarge,
-    /// The log that is judged is not legal: this line, counted from 1, is the first that breaks a rule, and this is the rule.
+    /// The log that is judged is not legal: this line, counted from 1, is the first that breaks a rule, and this is
+    /// the rule.
     Illegal { line: u32, rule: LogRule },
     /// The log that is judged is legal and not complete: this actor, the first of them, has something left to do.
     Unfinished { actor: Actor },
-    /// The bytes that are to be judged are no log's text: this line, counted from 1, is the first of no form that may stand
-    /// there.
+    /// The bytes that are to be judged are no log's text: this line, counted from 1, is the first of no form that may
+    /// stand there.
     BadLog(u32),
 }
 

@@ -1,8 +1,8 @@
 //! The program `acpi_events`: it reads a machine's description on standard input, runs the machine, and writes the
 //! history of what happened as a log on standard output.
 //!
-//! All that it does stands in `acpi_commands`, which says what each status means. `main` hands it the runtime, the words, the
-//! standard streams, the allocator and an open gate.
+//! All that it does stands in `acpi_commands`, which says what each status means. `main` hands it the runtime, the
+//! words, the standard streams, the allocator and an open gate.
 #![tactic(auto)]
 
 use acpi_commands::{OpenGate, Status, acpi_events, end};

@@ -20,6 +20,8 @@ WritesAll old new bytes (Ok _) = Appends old new bytes
 WritesAll old new bytes (Err _) = AddsFront old new bytes
 
 -- There were no more writes than bytes that were added, and one more at most where it failed.
-abbrev pub AsksOncePerByte : {U : Type 0} → (old new : Option (List ℕ)) → (before now : ℕ) → List ℕ → Result U WriteFault → Type 0
+abbrev pub AsksOncePerByte : {U : Type 0} → (old new : Option (List ℕ)) → (before now : ℕ) → List ℕ
+    → Result U WriteFault → Type 0
 AsksOncePerByte old new before now bytes (Ok _) = now ≤ before + length bytes
-AsksOncePerByte old new before now bytes (Err _) = (front back : List ℕ) × (bytes ≡ front ++ back) × Appends old new front × (now ≤ before + (length front + 1))
+AsksOncePerByte old new before now bytes (Err _) = (front back : List ℕ) × (bytes ≡ front ++ back)
+    × Appends old new front × (now ≤ before + (length front + 1))

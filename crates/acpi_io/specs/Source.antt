@@ -29,6 +29,8 @@ ReadsAll limit old new (Err fault.TooLarge) = TakesExactly (limit + 1) old new
 ReadsAll limit old new (Err fault.Memory) = TakesUpTo limit old new
 
 -- A reading asked at most once more often than it got bytes.
-abbrev pub AsksOncePerByte : (old new : Option (List ℕ)) → (before now : ℕ) → Result (Vec ℕ Global) ReadAllFault → Type 0
+abbrev pub AsksOncePerByte : (old new : Option (List ℕ)) → (before now : ℕ) → Result (Vec ℕ Global) ReadAllFault
+    → Type 0
 AsksOncePerByte old new before now (Ok v) = now ≤ before + (length v.items + 1)
-AsksOncePerByte old new before now (Err _) = (bytes : List ℕ) × Consumes old new bytes × (now ≤ before + (length bytes + 1))
+AsksOncePerByte old new before now (Err _) = (bytes : List ℕ) × Consumes old new bytes
+    × (now ≤ before + (length bytes + 1))

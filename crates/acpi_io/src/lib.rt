@@ -1,11 +1,10 @@
 //! Bytes in and out of the ACPI event core.
 //!
 //! The program reads its input through a [`Source`] and writes its log through a [`Sink`]. Each has a count of
-//! faults, which a failed call raises by one and no other call changes. So a call above can promise that it answers a fault
-//! exactly where one came, and that it asked no more from then on.
-//! [`read_all`] reads a source to its end, and [`write_all`] writes all bytes to a sink. [`MemorySource`] and
-//! [`MemorySink`] keep their bytes in memory and fail where they are told to, and [`StdSource`] and [`StdSink`]
-//! stand over the readers and writers of `std`.
+//! faults, which a failed call raises by one and no other call changes. So a call above can promise that it answers a
+//! fault exactly where one came, and that it asked no more from then on. [`read_all`] reads a source to its end, and
+//! [`write_all`] writes all bytes to a sink. [`MemorySource`] and [`MemorySink`] keep their bytes in memory and fail
+//! where they are told to, and [`StdSource`] and [`StdSink`] stand over the readers and writers of `std`.
 //!
 //! Where no fault is answered, none came: the count is as it was. The laws in [`laws`] say that values which compare
 //! as equal are equal.

@@ -19,8 +19,8 @@ pub trait Sink {
     /// The bytes that were taken so far, where the sink tells them.
     ghost held: { Self → Option (List ℕ) };
 
-    /// How often the sink has failed. A call that answers `Failed` raises it by one, but not past 2^64 - 1, and every other
-    /// call leaves it as it was. So no failure is passed over.
+    /// How often the sink has failed. A call that answers `Failed` raises it by one, but not past 2^64 - 1, and every
+    /// other call leaves it as it was. So no failure is passed over.
     ghost faults: { Self → ℕ };
 
     /// How often the sink was written to. One that does not count says 0.
@@ -50,7 +50,8 @@ impl Error for WriteFault {}
 
 /// Writes all bytes to a sink, in order. With no bytes it makes no call.
 ///
-/// It answers `WriteFault` where a write failed. That write was the last, and the sink has taken the bytes up to some place.
+/// It answers `WriteFault` where a write failed. That write was the last, and the sink has taken the bytes up to some
+/// place.
 pub fn write_all<K: Sink>(sink: &mut K, bytes: &[u8]) -> Result<(), WriteFault>
     ensures ends { WritesAll (K.held sink.old) (K.held sink.new) bytes.now result }
     ensures later { K.faults sink.old ≤ K.faults sink.new }
@@ -60,7 +61,8 @@ pub fn write_all<K: Sink>(sink: &mut K, bytes: &[u8]) -> Result<(), WriteFault>
     ensures told { OnOk result (K.faults sink.new ≡ K.faults sink.old) }
 
     // At most so many writes as bytes were added, and one more where it failed.
-    ensures asked { AsksOncePerByte (K.held sink.old) (K.held sink.new) (K.writes sink.old) (K.writes sink.new) bytes.now result }
+    ensures asked { AsksOncePerByte (K.held sink.old) (K.held sink.new) (K.writes sink.old) (K.writes sink.new)
+        bytes.now result }
     ensures empty { bytes.now ≡ [] → IsOk result × (sink.new ≡ sink.old) }
 {
     let mut rest = bytes;

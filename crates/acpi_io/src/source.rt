@@ -26,8 +26,8 @@ pub trait Source {
     /// The bytes that are still to come, where the source tells them.
     ghost left: { Self → Option (List ℕ) };
 
-    /// How often the source has failed. A call that answers `Failed` raises it by one, but not past 2^64 - 1, and every other
-    /// call leaves it as it was. So no failure is passed over.
+    /// How often the source has failed. A call that answers `Failed` raises it by one, but not past 2^64 - 1, and
+    /// every other call leaves it as it was. So no failure is passed over.
     ghost faults: { Self → ℕ };
 
     /// How often the source was read. One that does not count says 0.
@@ -76,9 +76,9 @@ impl From<AllocError> for ReadAllFault {
 
 /// Reads a source to its end and gives all its bytes, which may be up to `limit`. `limit` is at most 67,108,864.
 ///
-/// It answers `ReadFault` where a read failed, which was then the last, `TooLarge` where there are more bytes than `limit`, and `Memory`
-/// where memory ran out, which is told of no read that failed and of no bytes past the limit. After any of them the
-/// bytes that were taken are lost.
+/// It answers `ReadFault` where a read failed, which was then the last, `TooLarge` where there are more bytes than
+/// `limit`, and `Memory` where memory ran out, which is told of no read that failed and of no bytes past the limit.
+/// After any of them the bytes that were taken are lost.
 pub fn read_all<S: Source>(
     alloc: Global,
     source: &mut S,

@@ -58,8 +58,8 @@ only_adds f _ = true
 abbrev pub touches : Field → Cell → Bool
 touches field c = (field.region == c.region) && in_span field c.offset
 
--- A cell of memory that field f alone touches. The field is the cell's eight bits, an access of it needs the Global Lock, and
--- operations that name it do nothing but add to it.
+-- A cell of memory that field f alone touches. The field is the cell's eight bits, an access of it needs the Global
+-- Lock, and operations that name it do nothing but add to it.
 pub record IsAddedTo (m : MachineData) (c : Cell) (f : ℕ) : Type 0 where
   pub memory : is_memory_cell m c ≡ true
   pub byte : first_byte m c < 256
@@ -74,8 +74,9 @@ pub record IsAddedTo (m : MachineData) (c : Cell) (f : ℕ) : Type 0 where
 
 -- ---- the law
 
--- Such a cell ends as its first byte and all that was added, modulo 256: by the firmware's scripts, and by the script of each
--- job, as often as it was made.
+-- Such a cell ends as its first byte and all that was added, modulo 256: by the firmware's scripts, and by the script
+-- of each job, as often as it was made.
 abbrev pub SumsAdds : MachineData → List Entry → Type 0
 SumsAdds m history = (c : Cell) (f : ℕ) → IsAddedTo m c f
-    → value m (reverse history) c ≡ (first_byte m c + (sum_by (adds f) m.firmware + sum_by (job_adds m f) (jobs m (reverse history)))) % 256
+    → value m (reverse history) c
+        ≡ (first_byte m c + (sum_by (adds f) m.firmware + sum_by (job_adds m f) (jobs m (reverse history)))) % 256

@@ -1,5 +1,5 @@
--- What may happen to the core of a machine: each step of the lock's word and of the pins that the phases allow, and turns
--- whose entries are legal in their places.
+-- What may happen to the core of a machine: each step of the lock's word and of the pins that the phases allow, and
+-- turns whose entries are legal in their places.
 use Rattle.std.specs.Prelude.{◌≡◌, ◌≤◌, true, List, [], ◌∷◌}
 use Rattle.acpi_regs.specs.declared.actor.Actor.{Actor}
 use Rattle.acpi_regs.specs.declared.entry.Deed.{Deed}

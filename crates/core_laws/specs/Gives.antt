@@ -18,12 +18,14 @@ abbrev pub pulse_of : Actor → List CoreEvent
 pulse_of (actor.Device k) = event.Pulses k ∷ []
 pulse_of _ = []
 
--- An attempt is a load and an exchange, a sweep the five collects and a turn of the latches, an entry a turn of its own.
+-- An attempt is a load and an exchange, a sweep the five collects and a turn of the latches, an entry a turn of its
+-- own.
 abbrev pub events_in : Core → Actor → Step → List CoreEvent
 events_in c a Attempts = Load a ∷ Exchange a ∷ []
 events_in c a Releases = Release a ∷ []
 events_in c a (Pulses n) = pulse_of a
-events_in c a Sweeps = Collect a 0 ∷ Collect a 1 ∷ Collect a 2 ∷ Collect a 3 ∷ Collect a 4 ∷ Turn a (map deed.Latch (events_of c.pins)) ∷ []
+events_in c a Sweeps = Collect a 0 ∷ Collect a 1 ∷ Collect a 2 ∷ Collect a 3 ∷ Collect a 4
+    ∷ Turn a (map deed.Latch (events_of c.pins)) ∷ []
 events_in c a (Adds d) = Turn a (d ∷ []) ∷ []
 
 -- a step that leads to this core

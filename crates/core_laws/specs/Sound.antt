@@ -28,8 +28,8 @@ abbrev pub IsEarly : Actor → Option Open → Type 0
 IsEarly w None = Unit {0}
 IsEarly w (Some o) = same_actor w o.by ≡ true → o.made ≤ 1
 
--- The Out of a query has not come: its worker has yet to own the lock that the controller needs, or it has not begun, or it waits
--- for the Out.
+-- The Out of a query has not come: its worker has yet to own the lock that the controller needs, or it has not begun,
+-- or it waits for the Out.
 abbrev pub IsBeforeOut : Actor → Plan → Option Open → Type 0
 IsBeforeOut w p o = (p ≡ query_plan true) ⊎ (IsAsking p × IsEarly w o)
 
@@ -37,7 +37,8 @@ IsBeforeOut w p o = (p ≡ query_plan true) ⊎ (IsAsking p × IsEarly w o)
 abbrev pub IsAsked : MachineData → List Entry → Type 0
 IsAsked m past =
     (j : ℕ) × (slice_get (jobs m past) j ≡ Some job.Query)
-    × ((starts past ≤ j) ⊎ ((w : Actor) × (running past w ≡ Some j) × IsBeforeOut w (plan_left m past w) (open_of past)))
+    × ((starts past ≤ j) ⊎ ((w : Actor) × (running past w ≡ Some j)
+        × IsBeforeOut w (plan_left m past w) (open_of past)))
 
 -- the controller's event has status
 abbrev pub OwnHasStatus : MachineData → List Entry → Type 0

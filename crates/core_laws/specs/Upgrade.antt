@@ -35,7 +35,8 @@ SameWeight = (m : MachineData) → weight_of (up m) ≡ weight_of m
 
 -- the events that are parked at the end, in order, for which a log has a line each
 abbrev pub SameStuck : Type 0
-SameStuck = (m : MachineData) (h : List Entry) → events_of (parked (up m) (reverse h)) ≡ events_of (parked m (reverse h))
+SameStuck = (m : MachineData) (h : List Entry)
+    → events_of (parked (up m) (reverse h)) ≡ events_of (parked m (reverse h))
 
 -- a machine of version 2 is its own upgrade
 abbrev pub UpgradesOnce : Type 0

@@ -61,7 +61,8 @@ AreCodes codes = All (λ q. 0 < q) codes
 -- at first, and those that were pushed
 abbrev pub PutsOutInOrder : List Call → ChipData → Type 0
 PutsOutInOrder calls c =
-    AreCodes c.codes → AreCodes (pushed calls) → codes_out calls c ++ (after_calls calls c).codes ≡ c.codes ++ pushed calls
+    AreCodes c.codes → AreCodes (pushed calls)
+        → codes_out calls c ++ (after_calls calls c).codes ≡ c.codes ++ pushed calls
 
 -- ---- burst mode
 
@@ -78,11 +79,13 @@ turns_by _ c = None
 
 -- the call at place i turns burst mode on or off
 abbrev pub TurnsAt : List Call → ChipData → ℕ → Bool → Type 0
-TurnsAt calls c i on = (call : Call) × (slice_get calls i ≡ Some call) × (turns_by call (after_calls (take i calls) c) ≡ Some on)
+TurnsAt calls c i on = (call : Call) × (slice_get calls i ≡ Some call)
+    × (turns_by call (after_calls (take i calls) c) ≡ Some on)
 
 -- burst mode is what the last call that turns it on or off made it, else what it was
 pub record LastTurns (calls : List Call) (c : ChipData) : Type 0 where
-  pub turned : (i : ℕ) (on : Bool) → TurnsAt calls c i on → ((j : ℕ) (other : Bool) → i < j → TurnsAt calls c j other → ⊥) → (after_calls calls c).burst ≡ on
+  pub turned : (i : ℕ) (on : Bool) → TurnsAt calls c i on
+      → ((j : ℕ) (other : Bool) → i < j → TurnsAt calls c j other → ⊥) → (after_calls calls c).burst ≡ on
   pub never : ((i : ℕ) (on : Bool) → TurnsAt calls c i on → ⊥) → (after_calls calls c).burst ≡ c.burst
 
 -- ---- the status register (ACPI 6.5, section 12.2.1)

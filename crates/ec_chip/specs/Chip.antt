@@ -45,7 +45,8 @@ bit set = if set then 1 else 0
 -- OBF 0, IBF 1, CMD 3, BURST 4, SCI_EVT 5, which stands while a code waits
 abbrev pub status_bits : ChipData → ℕ
 status_bits c =
-    bit (is_some c.exchange.output) + 2 * bit (is_some c.exchange.input) + 8 * bit c.command + 16 * bit c.burst + 32 * bit (not (length c.codes == 0))
+    bit (is_some c.exchange.output) + 2 * bit (is_some c.exchange.input) + 8 * bit c.command + 16 * bit c.burst
+        + 32 * bit (not (length c.codes == 0))
 
 -- ---- what each call asks for
 

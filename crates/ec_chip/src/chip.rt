@@ -61,7 +61,8 @@ impl Model for EcChip {
     } };
 
     // The room was taken when the controller was made, so a push takes no memory.
-    ghost invariant = { λ c. (length c.cells.items ≡ 256) × (length c.codes.items ≤ c.room) × (c.room ≤ deque_capacity c.codes) × (c.room < 2 ^ 32) × All (λ q. 0 < q) c.codes.items };
+    ghost invariant = { λ c. (length c.cells.items ≡ 256) × (length c.codes.items ≤ c.room)
+        × (c.room ≤ deque_capacity c.codes) × (c.room < 2 ^ 32) × All (λ q. 0 < q) c.codes.items };
 }
 
 impl EcChip {
@@ -322,7 +323,8 @@ impl EcChip {
     /// IBF is clear, and the command's next byte is to come.
     fn wait_for(&mut self, half: Half) -> Effect
         ensures effect { result ≡ Effect.Taken }
-        ensures chip { self.new ≡ record self.old { exchange = record self.old.exchange { half = half; input = None } } }
+        ensures chip { self.new ≡ record self.old
+            { exchange = record self.old.exchange { half = half; input = None } } }
     {
         self.half = half;
         self.input = None;
@@ -332,7 +334,8 @@ impl EcChip {
     /// IBF is clear and OBF is set.
     fn put_out(&mut self, answer: u8) -> Effect
         ensures effect { result ≡ Effect.Out answer }
-        ensures chip { self.new ≡ record self.old { exchange = record self.old.exchange { input = None; output = Some answer } } }
+        ensures chip { self.new ≡ record self.old
+            { exchange = record self.old.exchange { input = None; output = Some answer } } }
     {
         self.input = None;
         self.output = Some(answer);

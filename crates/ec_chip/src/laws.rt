@@ -6,8 +6,8 @@ ghost use Rattle.ec_chip.specs.Chip.{ChipData};
 
 use crate::CtlOutcome;
 
-/// Whatever calls are made, the controller puts each query code out once, in the order in which the codes were pushed. It
-/// is not said that the host reads it there.
+/// Whatever calls are made, the controller puts each query code out once, in the order in which the codes were
+/// pushed. It is not said that the host reads it there.
 pub fn law_codes_in_order()
     ensures { (calls : List Call) (c : ChipData) → PutsOutInOrder calls c }
 {}

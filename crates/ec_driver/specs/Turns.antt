@@ -114,7 +114,9 @@ Does request.Qr old turns taken new =
 -- whatever the order of turns, once the transaction is finished
 abbrev pub AlwaysDoes : Request → ChipData → List Turn → Type 0
 AlwaysDoes r c turns =
-    c.exchange ≡ quiet → (taken : Option ℕ) → finished (after_turns turns (begun r c)).driver (after_turns turns (begun r c)).chip ≡ Some taken → Does r c turns taken (after_turns turns (begun r c)).chip
+    c.exchange ≡ quiet → (taken : Option ℕ)
+        → finished (after_turns turns (begun r c)).driver (after_turns turns (begun r c)).chip ≡ Some taken
+        → Does r c turns taken (after_turns turns (begun r c)).chip
 
 -- ---- the condition of the driver's calls
 
@@ -127,7 +129,11 @@ pub record StandsOn (t : TransactionData) (c : ChipData) : Type 0 where
 -- Where the condition holds, what the controller does next is its move of the request, with the blank filled by the
 -- byte of the cell or by the first code, and its turn does to cells, codes and burst mode what that move says.
 pub record MovesAsAsked (t : TransactionData) (c : ChipData) : Type 0 where
-  pub effect : Stands t c → next_effect c ≡ effect_in (slice_get (wire t.asks (fill t.asks c.cells c.codes)) (moves_made t c))
-  pub cells : (e : Effect) → Stands t c → next_effect c ≡ Some e → (after_step c).cells ≡ cells_by t.asks (move.Ctl e) c.cells
-  pub codes : (e : Effect) → Stands t c → next_effect c ≡ Some e → (after_step c).codes ≡ codes_by t.asks (move.Ctl e) c.codes
-  pub burst : (e : Effect) → Stands t c → next_effect c ≡ Some e → (after_step c).burst ≡ burst_by t.asks (move.Ctl e) c.burst
+  pub effect : Stands t c → next_effect c
+      ≡ effect_in (slice_get (wire t.asks (fill t.asks c.cells c.codes)) (moves_made t c))
+  pub cells : (e : Effect) → Stands t c → next_effect c ≡ Some e
+      → (after_step c).cells ≡ cells_by t.asks (move.Ctl e) c.cells
+  pub codes : (e : Effect) → Stands t c → next_effect c ≡ Some e
+      → (after_step c).codes ≡ codes_by t.asks (move.Ctl e) c.codes
+  pub burst : (e : Effect) → Stands t c → next_effect c ≡ Some e
+      → (after_step c).burst ≡ burst_by t.asks (move.Ctl e) c.burst

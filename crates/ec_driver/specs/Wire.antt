@@ -16,8 +16,10 @@ answered command v = move.Host (host.Sc command) ∷ move.Ctl (effect.Out v) ∷
 -- The moves of a request, in order. The byte v fills the blank of a read and of a query.
 -- RD_EC 80h, WR_EC 81h, BE_EC 82h with its acknowledge 90h, BD_EC 83h, QR_EC 84h.
 abbrev pub wire : Request → ℕ → List Move
-wire (request.Rd x) v = move.Host (host.Sc 128) ∷ move.Ctl effect.Taken ∷ move.Host (host.Data x) ∷ move.Ctl (effect.Out v) ∷ move.Host (host.Get v) ∷ []
-wire (request.Wr x w) v = move.Host (host.Sc 129) ∷ move.Ctl effect.Taken ∷ move.Host (host.Data x) ∷ move.Ctl effect.Taken ∷ move.Host (host.Data w) ∷ move.Ctl effect.Put ∷ []
+wire (request.Rd x) v = move.Host (host.Sc 128) ∷ move.Ctl effect.Taken ∷ move.Host (host.Data x)
+    ∷ move.Ctl (effect.Out v) ∷ move.Host (host.Get v) ∷ []
+wire (request.Wr x w) v = move.Host (host.Sc 129) ∷ move.Ctl effect.Taken ∷ move.Host (host.Data x)
+    ∷ move.Ctl effect.Taken ∷ move.Host (host.Data w) ∷ move.Ctl effect.Put ∷ []
 wire request.Be v = answered 130 144
 wire request.Bd v = move.Host (host.Sc 131) ∷ move.Ctl effect.Taken ∷ []
 wire request.Qr v = answered 132 v
@@ -37,7 +39,8 @@ exchange_by (move.Host (host.Sc byte)) e = record e { input = Some byte }
 exchange_by (move.Host (host.Data byte)) e = record e { input = Some byte }
 exchange_by (move.Host (host.Get byte)) e = record e { output = None }
 exchange_by (move.Ctl effect.Calm) e = e
-exchange_by (move.Ctl done) e = record { half = half_after e.half (unwrap_or e.input 0); input = None; output = output_after done e.output }
+exchange_by (move.Ctl done) e = record
+    { half = half_after e.half (unwrap_or e.input 0); input = None; output = output_after done e.output }
 
 -- what these moves leave on its way
 abbrev pub exchange_from : List Move → Exchange → Exchange

@@ -1,5 +1,6 @@
--- Which bits of a region a field has (ACPI 6.5, section 19.6.48): bit i of the field is bit `field.bit + i` of the region,
--- and bit p of a region is bit p % 8 of its byte p / 8. Bytes are given by their offset in the region, as `cells b`.
+-- Which bits of a region a field has (ACPI 6.5, section 19.6.48): bit i of the field is bit `field.bit + i` of the
+-- region, and bit p of a region is bit p % 8 of its byte p / 8. Bytes are given by their offset in the region, as
+-- `cells b`.
 use Rattle.std.specs.Prelude.{ℕ, zero, suc, ◌+◌, ◌-◌, ◌*◌, ◌/◌, ◌%◌, ◌^◌, min, Bool, ◌&&◌, ◌||◌, nat_le, nat_lt, if◌then◌else◌}
 use Rattle.std.specs.Int.{bit_at}
 use Rattle.field_units.specs.declared.rules.UpdateRule.{UpdateRule}
@@ -36,7 +37,8 @@ bit_of_byte field k = 8 * (field.bit / 8 + k)
 
 -- byte k of the field has a bit outside it
 abbrev pub is_partial : Field → ℕ → Bool
-is_partial field k = nat_lt (bit_of_byte field k) field.bit || nat_lt (field.bit + field.width) (bit_of_byte field k + 8)
+is_partial field k = nat_lt (bit_of_byte field k) field.bit
+    || nat_lt (field.bit + field.width) (bit_of_byte field k + 8)
 
 -- how many bits of the field stand in its first n bytes
 abbrev pub bits_in : Field → ℕ → ℕ
@@ -45,7 +47,8 @@ bits_in field n = min field.width (bit_of_byte field n - field.bit)
 -- the field's bits of byte k, joined to those of the bytes before
 abbrev pub joined : Field → ℕ → ℕ → ℕ → ℕ
 joined field k byte so_far =
-    from_bits (bits_in field (k + 1)) (λ i. if nat_lt i (bits_in field k) then bit_at so_far i else bit_at byte ((field.bit + i) % 8))
+    from_bits (bits_in field (k + 1))
+        (λ i. if nat_lt i (bits_in field k) then bit_at so_far i else bit_at byte ((field.bit + i) % 8))
 
 -- what reading the first n bytes of a field in order gives
 abbrev pub read_bytes : Field → (ℕ → ℕ) → ℕ → ℕ
@@ -61,7 +64,8 @@ outside update.WriteAsZeros old = 0
 -- byte k of a field once a value is written: the field's bits are those of the value, the others go by the update rule
 abbrev pub replaced : Field → ℕ → ℕ → ℕ → ℕ
 replaced field k old value =
-    from_bits 8 (λ j. if has_bit field (bit_of_byte field k + j) then bit_at value (bit_of_byte field k + j - field.bit) else outside field.update (bit_at old j))
+    from_bits 8 (λ j. if has_bit field (bit_of_byte field k + j) then bit_at value
+        (bit_of_byte field k + j - field.bit) else outside field.update (bit_at old j))
 
 -- byte b of the region holds a bit of the field
 abbrev pub in_span : Field → ℕ → Bool

@@ -23,8 +23,8 @@ pub record Field : Type 0 where
   pub lock : LockRule
   pub update : UpdateRule
 
--- how many cells the region of a field may have: a length has 16 bits, and an address of the controller one byte (ACPI 6.5,
--- section 12.3.1)
+-- how many cells the region of a field may have: a length has 16 bits, and an address of the controller one byte
+-- (ACPI 6.5, section 12.3.1)
 abbrev pub most_cells : RegionKind → ℕ
 most_cells kind.Memory = 65535
 most_cells kind.Controller = 256

@@ -27,14 +27,17 @@ pub record DeviceData : Type 0 where
   pub pulses : List Pulse
 
 -- the next event of its list is pulsed, if there is one
-abbrev pub PulsesNext : {W : Type 0} → (W → Actor → Call → W → Type 0) → Actor → W → List Pulse → Option Event → StepOutcome → W → List Pulse → Type 0
+abbrev pub PulsesNext : {W : Type 0} → (W → Actor → Call → W → Type 0) → Actor → W → List Pulse → Option Event
+    → StepOutcome → W → List Pulse → Type 0
 PulsesNext makes a w ps None o w' qs = (o ≡ outcome.Ended) × (w' ≡ w) × (qs ≡ ps)
-PulsesNext makes a w ps (Some n) o w' qs = (clear : Bool) × makes w a (Pulsed_at n clear) w' × (o ≡ outcome.Stepped) × (qs ≡ ps ++ record { event = n; clear = clear } ∷ [])
+PulsesNext makes a w ps (Some n) o w' qs = (clear : Bool) × makes w a (Pulsed_at n clear) w' × (o ≡ outcome.Stepped)
+    × (qs ≡ ps ++ record { event = n; clear = clear } ∷ [])
 
 -- the event that a device pulses next
 abbrev pub next_pulse : MachineData → ℕ → List Pulse → Option Event
 next_pulse m k ps = slice_get (pulses m k) (length ps)
 
 -- one step of a device: one pulse, until its list is through
-abbrev pub DeviceSteps : {W : Type 0} → (W → Actor → Call → W → Type 0) → MachineData → ℕ → W → List Pulse → StepOutcome → W → List Pulse → Type 0
+abbrev pub DeviceSteps : {W : Type 0} → (W → Actor → Call → W → Type 0) → MachineData → ℕ → W → List Pulse
+    → StepOutcome → W → List Pulse → Type 0
 DeviceSteps makes m k w ps o w' qs = PulsesNext makes (actor.Device k) w ps (next_pulse m k ps) o w' qs

@@ -17,8 +17,8 @@ impl Controller {
         Controller {}
     }
 
-    /// One step: in one turn it makes its next move of the open transaction; else it leaves burst mode, where it may do so
-    /// of its own accord.
+    /// One step: in one turn it makes its next move of the open transaction; else it leaves burst mode, where it may
+    /// do so of its own accord.
     ///
     /// `machine` is the machine of the world's board.
     pub fn step<W: World>(&mut self, machine: &Machine, world: &mut W) -> StepOutcome

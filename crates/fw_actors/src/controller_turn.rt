@@ -21,7 +21,8 @@ impl Duty for ControllerTurn {
 
     ghost lock = { λ d. None };
 
-    ghost does = { λ m d d' before after events answer. (after ≡ before ++ ctl_adds m (reverse before) events) × (answer ≡ did (ctl_adds m (reverse before) events)) };
+    ghost does = { λ m d d' before after events answer. (after ≡ before ++ ctl_adds m (reverse before) events)
+        × (answer ≡ did (ctl_adds m (reverse before) events)) };
 
     fn actor(&self) -> Actor {
         Actor::Ec

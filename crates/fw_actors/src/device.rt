@@ -53,14 +53,16 @@ impl Device {
 
     /// One step: it pulses the next event of its list. It answers Ended where its list is through.
     ///
-    /// `machine` is the machine of the world's board. Where the world asks it, the event is the next of the device's list.
+    /// `machine` is the machine of the world's board. Where the world asks it, the event is the next of the device's
+    /// list.
     pub fn step<W: World>(&mut self, machine: &Machine, world: &mut W) -> StepOutcome
         requires machine { W.machine world.old ≡ machine.now }
         requires may { (n : Event) → next_pulse machine.now self.old.number self.old.pulses ≡ Some n
             → W.may world.old (Actor.Device self.old.number) (To_pulse n) }
         ensures number { self.new.number ≡ self.old.number }
         ensures machine { W.machine world.new ≡ machine.now }
-        ensures steps { DeviceSteps W.makes machine.now self.old.number world.old self.old.pulses result world.new self.new.pulses }
+        ensures steps { DeviceSteps W.makes machine.now self.old.number world.old self.old.pulses result world.new
+            self.new.pulses }
     {
         match self.next(machine) {
             Some(event) => {

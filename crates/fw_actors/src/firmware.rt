@@ -40,9 +40,9 @@ impl Firmware {
         self.number
     }
 
-    /// One step: the entry for the next act of its script, where the board allows it. While it competes for the Global Lock
-    /// its phase says what is next: an attempt, a release, or an entry. It answers Ended where its script has ended and it
-    /// does not compete.
+    /// One step: the entry for the next act of its script, where the board allows it. While it competes for the
+    /// Global Lock its phase says what is next: an attempt, a release, or an entry. It answers Ended where its script
+    /// has ended and it does not compete.
     ///
     /// `machine` is the machine of the world's board. Where the world tells a phase, it is the firmware's.
     pub fn step<W: World>(&mut self, machine: &Machine, world: &mut W) -> StepOutcome
@@ -50,7 +50,8 @@ impl Firmware {
         requires may { W.may world.old (Actor.Firmware self.old.number) (lock_want self.old.phase) }
         ensures number { self.new.number ≡ self.old.number }
         ensures machine { W.machine world.new ≡ machine.now }
-        ensures steps { ScriptSteps W.makes machine.now (Actor.Firmware self.old.number) world.old self.old.phase result world.new self.new.phase }
+        ensures steps { ScriptSteps W.makes machine.now (Actor.Firmware self.old.number) world.old self.old.phase
+            result world.new self.new.phase }
     {
         let _ = machine;
         script_step(Actor::Firmware(self.number), &mut self.phase, world)

@@ -1,8 +1,8 @@
 //! What the reader answers to each description of standard input: a program that the gate runs on a table of cases.
 //!
-//! A case is two lines, its name and its description. A line is written for each, with the name and the answer: the fault, as
-//! the program `acpi_events` tells it, or the weight and the actors of the machine, and whether the description was its
-//! canonical text.
+//! A case is two lines, its name and its description. A line is written for each, with the name and the answer: the
+//! fault, as the program `acpi_events` tells it, or the weight and the actors of the machine, and whether the
+//! description was its canonical text.
 #![tactic(auto)]
 
 use acpi_commands::Status;

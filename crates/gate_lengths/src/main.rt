@@ -1,16 +1,16 @@
 //! A program that shows how near histories come to the weight of their machine, and what a board tells at the end.
 //!
-//! Standard input is a table: a line with a name, and a line with a description. For each machine the program makes the steps
-//! of the schedule, and behind each it lets the interrupt handler, the poll, the first worker and the controller go on until
-//! none of them does anything. So each act of the firmware is answered to its end before the next: the line of a level event
-//! that stays asserted brings all its runs. Then it makes rounds, and prints the number of entries, the weight, and the last line
-//! of the log.
+//! Standard input is a table: a line with a name, and a line with a description. For each machine the program makes
+//! the steps of the schedule, and behind each it lets the interrupt handler, the poll, the first worker and the
+//! controller go on until none of them does anything. So each act of the firmware is answered to its end before the
+//! next: the line of a level event that stays asserted brings all its runs. Then it makes rounds, and prints the
+//! number of entries, the weight, and the last line of the log.
 //!
-//! Where the name ends with `, its log` it makes the steps of the schedule alone, then rounds, and prints the whole log as
-//! `log_bytes` gives it, and the references to each listed event behind it.
+//! Where the name ends with `, its log` it makes the steps of the schedule alone, then rounds, and prints the whole
+//! log as `log_bytes` gives it, and the references to each listed event behind it.
 //!
-//! No history is longer than the weight (`law_weight` of `machine_history`). The table has machines whose longest history is as
-//! long as that, so the weight could not be less.
+//! No history is longer than the weight (`law_weight` of `machine_history`). The table has machines whose longest
+//! history is as long as that, so the weight could not be less.
 #![tactic(auto)]
 
 ghost use Rattle.std.specs.Prelude.{◌≡◌, map};
@@ -124,7 +124,8 @@ fn length(alloc: Global, board: &Board) -> Result<String, Memory> {
     Ok(told)
 }
 
-/// Makes the steps of the schedule, the OS's answer to each behind it unless the log is wanted, and rounds to their end.
+/// Makes the steps of the schedule, the OS's answer to each behind it unless the log is wanted, and rounds to their
+/// end.
 fn play(machine: &Machine, world: &mut SerialWorld, actors: &mut Vec<AnyActor>, way: Way)
     requires machine { world.old.board.machine ≡ machine.now }
     requires actors { map who actors.old.items ≡ actors_of machine.now }

@@ -1,10 +1,10 @@
 //! Judges many logs: it reads cases on standard input, and writes a line for each, its name and the verdict.
 //!
-//! A case begins with a line `= NAME`. Behind it stand the lines of its log. Where the first is no machine's line, the log
-//! takes that of the case before, so a machine's line stands once for many cases; and where the last is no `rest` line, one is
-//! added with the number of the entries. A case that begins with a line `=! NAME` has its log as it stands, and one with
-//! `=- NAME` as it stands without its last newline. The words are those of `acpi_events`: `complete 7`, `Illegal 5 Owner`,
-//! `Unfinished w0`, `BadLog 3`.
+//! A case begins with a line `= NAME`. Behind it stand the lines of its log. Where the first is no machine's line,
+//! the log takes that of the case before, so a machine's line stands once for many cases; and where the last is no
+//! `rest` line, one is added with the number of the entries. A case that begins with a line `=! NAME` has its log as
+//! it stands, and one with `=- NAME` as it stands without its last newline. The words are those of `acpi_events`:
+//! `complete 7`, `Illegal 5 Owner`, `Unfinished w0`, `BadLog 3`.
 #![tactic(auto)]
 
 mod cases;

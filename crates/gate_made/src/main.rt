@@ -1,5 +1,5 @@
-//! The description of the machine that `make 0 1` runs: a program that the gate runs, to compare each part of that machine with
-//! a text that was not made by it.
+//! The description of the machine that `make 0 1` runs: a program that the gate runs, to compare each part of that
+//! machine with a text that was not made by it.
 #![tactic(auto)]
 
 use machine_maker::make;

@@ -15,8 +15,8 @@ pub enum Made {
     Spaces(usize),
     /// A description with one script of this many operations, at least one, each a write of 1 to the same byte.
     Writes(u32),
-    /// A description with one region of 4,096 cells, each with its byte, and 256 fields; with firmware, it has one script of
-    /// 4,096 writes of the greatest value.
+    /// A description with one region of 4,096 cells, each with its byte, and 256 fields; with firmware, it has one
+    /// script of 4,096 writes of the greatest value.
     Large { firmware: bool },
 }
 

@@ -1,5 +1,5 @@
-//! What a call of `acpi_events` answers and writes, over a source and a sink in memory: a program that the gate runs on a table
-//! of cases.
+//! What a call of `acpi_events` answers and writes, over a source and a sink in memory: a program that the gate runs
+//! on a table of cases.
 //!
 //! The table has blocks, with an empty line between them. One that begins with `#` is a remark. One that begins with
 //! `text NAME` names the text below that line. One that begins with `= NAME` is a case, with an option a line:
@@ -25,9 +25,10 @@
 //! | `checked` | the log is given to `check` |
 //! | `writes below: N` | whether the sink was called fewer than N times |
 //!
-//! For each case the program prints its name and the answers to its calls: a refusal with its code, how often the sink was
-//! called, and what it holds; or the text that was written. A log's first line is omitted if it is `machine ` and the input. Equal
-//! answers in a row are printed once, with their number, so a call with another answer is seen at its place.
+//! For each case the program prints its name and the answers to its calls: a refusal with its code, how often the
+//! sink was called, and what it holds; or the text that was written. A log's first line is omitted if it is
+//! `machine ` and the input. Equal answers in a row are printed once, with their number, so a call with another
+//! answer is seen at its place.
 //!
 //! Each status follows at the end, with its code, its text and what `end` writes.
 #![tactic(auto)]

@@ -6,8 +6,8 @@ use std::sync::atomic::{AtomicBool, Ordering};
 /// How often an actor looks before it gives up.
 const LIMIT: u32 = 50_000_000;
 
-/// A gate at which the first firmware and the first worker wait for each other, each at its first pass; or at which nobody
-/// waits. A run on one thread, also one in rounds, reaches the limit in the first of the two passes.
+/// A gate at which the first firmware and the first worker wait for each other, each at its first pass; or at which
+/// nobody waits. A run on one thread, also one in rounds, reaches the limit in the first of the two passes.
 #[derive(Drop)]
 pub struct Meeting {
     waits: bool,

@@ -154,8 +154,8 @@ fn play_each_write<R: Threads + Sync>(
     Ok(())
 }
 
-/// Whether the write of this number was the last, and the sink holds what the writes before it took: a front of the whole text,
-/// of `most` bytes for each of them.
+/// Whether the write of this number was the last, and the sink holds what the writes before it took: a front of the
+/// whole text, of `most` bytes for each of them.
 fn has_front(outcome: &Outcome, whole: &Outcome, number: u64, most: usize) -> bool {
     let held = outcome.sink.held();
     outcome.sink.writes() == number.saturating_add(1)

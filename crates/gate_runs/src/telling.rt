@@ -80,7 +80,8 @@ impl Telling {
         Ok(answer)
     }
 
-    /// What is printed of a text that the program wrote: of a log the lines after the machine's, if that one has the input.
+    /// What is printed of a text that the program wrote: of a log the lines after the machine's, if that one has the
+    /// input.
     fn accepted(
         &self,
         alloc: Global,

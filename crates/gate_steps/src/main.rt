@@ -1,10 +1,10 @@
-//! A program that shows the steps of a machine's actors, one after another. It reads a description on standard input and makes
-//! the steps of its schedule over a world of one thread. For each it prints the actor, the outcome and the Global Lock's word
-//! behind it, and below that what the actor entered into the journal. Then it makes rounds until nobody has a step, and tells
-//! whether the board is at rest.
+//! A program that shows the steps of a machine's actors, one after another. It reads a description on standard input
+//! and makes the steps of its schedule over a world of one thread. For each it prints the actor, the outcome and the
+//! Global Lock's word behind it, and below that what the actor entered into the journal. Then it makes rounds until
+//! nobody has a step, and tells whether the board is at rest.
 //!
-//! The gate runs it on a machine whose schedule goes through each line of the table of steps, with what allows the step there
-//! and with what does not.
+//! The gate runs it on a machine whose schedule goes through each line of the table of steps, with what allows the
+//! step there and with what does not.
 #![tactic(auto)]
 
 ghost use Rattle.std.specs.Prelude.{◌≡◌, map};

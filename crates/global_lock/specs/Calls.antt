@@ -25,5 +25,7 @@ Fails (suc k) v w = (u : View) × (l : ℕ) × (n : ℕ) × Fails k v u × Attem
 
 -- some attempts that found the word changed, and then one that succeeded: on a free word, or on an owned one
 abbrev pub Acquires : Actor → View → Acquired → View → Type 0
-Acquires a v (acquired.Owned x) w = (x ≡ a) × ((k : ℕ) × (u : View) × Fails k v u × Attempts u attempt.Won w) × IsSeatOf (IsIn lock.Won) a w
-Acquires a v (acquired.Busy x n) w = (x ≡ a) × ((k : ℕ) × (u : View) × Fails k v u × Attempts u (attempt.Marked n) w) × IsSeatOf (IsIn lock.Marked) a w
+Acquires a v (acquired.Owned x) w = (x ≡ a) × ((k : ℕ) × (u : View) × Fails k v u × Attempts u attempt.Won w)
+    × IsSeatOf (IsIn lock.Won) a w
+Acquires a v (acquired.Busy x n) w = (x ≡ a) × ((k : ℕ) × (u : View) × Fails k v u × Attempts u (attempt.Marked n) w)
+    × IsSeatOf (IsIn lock.Marked) a w

@@ -35,7 +35,8 @@ MayNote k d = (may_add (phase_of k) d ≡ true) × (is_latch d ≡ false) × (is
 
 -- this actor's seat of this table, in this phase and in a turn that found these entries
 abbrev pub IsInside : TableName → Actor → SeatPhase → List Entry → Pass → Type 0
-IsInside id a k found s = (s.table ≡ id) × (s.view.stage ≡ stage.Inside) × (s.view.seen ≡ found) × IsSeatOf (IsAt k) a s.view
+IsInside id a k found s = (s.table ≡ id) × (s.view.stage ≡ stage.Inside) × (s.view.seen ≡ found)
+    × IsSeatOf (IsAt k) a s.view
 
 -- a phase with no pins in hand
 abbrev pub MayPass : SeatPhase → Type 0

@@ -27,7 +27,8 @@ pub enum TryLock {
 pub enum Acquired {
     /// The lock is the actor's.
     Owned(Won),
-    /// The lock is owned by another, and its Pending bit is set now. The number is the word that the last exchange found.
+    /// The lock is owned by another, and its Pending bit is set now. The number is the word that the last exchange
+    /// found.
     Busy(Marked, u32),
 }
 

@@ -67,7 +67,9 @@ first_of (Some f) later = Some f
 -- the fault of the first faulty op, from op i on; a hold that is open at the end comes after every other
 abbrev pub faults_from : (Op → Bool) → Side → ℕ → Option ℕ → ℕ → List Op → Option ScriptFault
 faults_from forbidden of_side count hold i [] = option_map fault.Unbalanced hold
-faults_from forbidden of_side count hold i (o ∷ ops) = first_of (op_fault forbidden of_side count (is_some hold) i o ops) (faults_from forbidden of_side count (open_after i o hold) (i + 1) ops)
+faults_from forbidden of_side count hold i (o ∷ ops) = first_of
+    (op_fault forbidden of_side count (is_some hold) i o ops)
+    (faults_from forbidden of_side count (open_after i o hold) (i + 1) ops)
 
 -- the fault of a script of this side, where there are so many fields
 unfoldable pub script_fault : (Op → Bool) → Side → ℕ → List Op → Option ScriptFault

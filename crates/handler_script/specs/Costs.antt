@@ -82,4 +82,5 @@ ops_cost price fields held (o ∷ ops) = op_cost price fields held o + ops_cost 
 
 -- an accepted script costs no more than its ops
 abbrev pub CostsItsOps : Type 0
-CostsItsOps = (price : Act → ℕ) (fields : List Field) (ops : List Op) → IsUniform price → Accepted fields ops → Costs price (plan fields ops) (ops_cost price fields false ops)
+CostsItsOps = (price : Act → ℕ) (fields : List Field) (ops : List Op) → IsUniform price → Accepted fields ops
+    → Costs price (plan fields ops) (ops_cost price fields false ops)

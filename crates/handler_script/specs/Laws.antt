@@ -11,12 +11,14 @@ use Rattle.handler_script.specs.Plan.{Plan, acts_of, next_act, plan, plan_after}
 
 -- the list of acts for more answers begins with that for fewer
 abbrev pub GoesOn : Type 0
-GoesOn = (p : Plan) (answers more : List ℕ) → (rest : List Act) × (acts_of p (answers ++ more) ≡ acts_of p answers ++ rest)
+GoesOn = (p : Plan) (answers more : List ℕ)
+    → (rest : List Act) × (acts_of p (answers ++ more) ≡ acts_of p answers ++ rest)
 
 -- once the next act is answered, the acts are that act and then those of what is left
 abbrev pub StepsOn : Type 0
 StepsOn = (p : Plan) (a : Act) (byte : ℕ) (answers : List ℕ) → next_act p ≡ Some a
-    → acts_of p (if brings a then byte ∷ answers else answers) ≡ a ∷ acts_of (plan_after (if brings a then byte else 0) p) answers
+    → acts_of p (if brings a then byte ∷ answers else answers)
+        ≡ a ∷ acts_of (plan_after (if brings a then byte else 0) p) answers
 
 -- where there is no answer, and the next act is to be answered with a byte, the acts are that one alone
 abbrev pub Waits : Type 0
@@ -26,12 +28,13 @@ Waits = (p : Plan) (a : Act) → next_act p ≡ Some a → brings a ≡ true →
 abbrev pub Ends : Type 0
 Ends = (p : Plan) (answers : List ℕ) → next_act p ≡ None → acts_of p answers ≡ []
 
--- in an accepted script each act that needs the lock stands where it is held, the lock is taken and given back in turn, and it
--- is free at the end
+-- in an accepted script each act that needs the lock stands where it is held, the lock is taken and given back in
+-- turn, and it is free at the end
 abbrev pub LocksInTurn : Type 0
 LocksInTurn = (fields : List Field) (ops : List Op) → Accepted fields ops → Locked false (plan fields ops)
 
--- In an accepted script the acts that need the lock are marked: each access to a cell, and each request, that only fields which need
--- the lock make, and each access and request while the lock is held. No other act is.
+-- In an accepted script the acts that need the lock are marked: each access to a cell, and each request, that only
+-- fields which need the lock make, and each access and request while the lock is held. No other act is.
 abbrev pub MarksNeeds : Type 0
-MarksNeeds = (glk : Bool) (fields : List Field) (ops : List Op) → Accepted fields ops → Marked glk fields false (plan fields ops)
+MarksNeeds = (glk : Bool) (fields : List Field) (ops : List Op) → Accepted fields ops
+    → Marked glk fields false (plan fields ops)

@@ -18,18 +18,22 @@ written _ field last = 0
 
 -- once the bytes are read
 abbrev pub read_done : Op → Field → Bool → (ℕ → Plan) → ℕ → Plan
-read_done (op.Add f v) field held next value = write_from field (access_needs field held) 0 (byte_count field) ((value + v) % 2 ^ field.width) (closed field held (next value))
+read_done (op.Add f v) field held next value = write_from field (access_needs field held) 0 (byte_count field)
+    ((value + v) % 2 ^ field.width) (closed field held (next value))
 read_done _ field held next value = closed field held (next value)
 
 -- what is left of an op on a field, by the stage within it
 abbrev pub rest_of_op : Op → Field → Bool → Stage → ℕ → (ℕ → Plan) → Plan
 rest_of_op o field held stage.Before last next = on_field (Some field) o held last next
 rest_of_op o field held stage.Opened last next = opened o field held last next
-rest_of_op o field held (stage.Reading k so_far) last next = read_from field (access_needs field held) k (byte_count field - k) so_far (read_done o field held next)
-rest_of_op o field held (stage.Writing k) last next = write_from field (access_needs field held) k (byte_count field - k) (written o field last) (closed field held (next last))
+rest_of_op o field held (stage.Reading k so_far) last next = read_from field (access_needs field held) k
+    (byte_count field - k) so_far (read_done o field held next)
+rest_of_op o field held (stage.Writing k) last next = write_from field (access_needs field held) k
+    (byte_count field - k) (written o field last) (closed field held (next last))
 rest_of_op o field held (stage.Replacing k old) last next =
     Do (access_needs field held) (write_act field k (replaced field k old (written o field last)))
-    (λ _. write_from field (access_needs field held) (k + 1) (byte_count field - (k + 1)) (written o field last) (closed field held (next last)))
+    (λ _. write_from field (access_needs field held) (k + 1) (byte_count field - (k + 1)) (written o field last)
+        (closed field held (next last)))
 rest_of_op o field held stage.Closing last next = closed field held (next last)
 rest_of_op o field held stage.Unlocking last next = unlocked field held (next last)
 rest_of_op o field held stage.Done last next = next last
@@ -78,8 +82,10 @@ is_entered field held s = is_ready field held s
 
 -- what is left of the ops from the cursor's on
 abbrev pub left_op : List Field → Bool → Stage → ℕ → Option Field → Op → List Op → Plan
-left_op fields held s last None o ops = plan_op fields o held last (λ held last skip. plan_from fields ops held last skip)
-left_op fields held s last (Some field) o ops = rest_of_op o field held s last (λ value. plan_from fields ops held value 0)
+left_op fields held s last None o ops = plan_op fields o held last
+    (λ held last skip. plan_from fields ops held last skip)
+left_op fields held s last (Some field) o ops = rest_of_op o field held s last
+    (λ value. plan_from fields ops held value 0)
 
 abbrev pub left_ops : List Field → List Op → Bool → Stage → ℕ → Plan
 left_ops fields [] held s last = End

@@ -20,4 +20,5 @@ is_lock_step _ held = true
 -- the end.
 abbrev pub Locked : Bool → Plan → Type 0
 Locked held End = held ≡ false
-Locked held (Do needs a next) = ((not needs || held) ≡ true) × (is_lock_step a held ≡ true) × ((byte : ℕ) → Locked (held_by a held) (next byte))
+Locked held (Do needs a next) = ((not needs || held) ≡ true) × (is_lock_step a held ≡ true)
+    × ((byte : ℕ) → Locked (held_by a held) (next byte))

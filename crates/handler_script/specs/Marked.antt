@@ -14,7 +14,8 @@ use Rattle.handler_script.specs.Plan.{Plan, Do, End}
 
 -- the cell holds a bit of the field
 abbrev pub is_of : Cell → Field → Bool
-is_of c field = (field.region == c.region) && (nat_le (first_byte field) c.offset && nat_lt c.offset (first_byte field + byte_count field))
+is_of c field = (field.region == c.region)
+    && (nat_le (first_byte field) c.offset && nat_lt c.offset (first_byte field + byte_count field))
 
 -- each field that has a bit in the cell needs the lock
 abbrev pub is_locked_cell : List Field → Cell → Bool
@@ -22,8 +23,10 @@ is_locked_cell fields c = list_all (λ field. not (is_of c field) || needs_lock 
 
 -- the request moves a byte of the field, or opens or ends burst mode for it
 abbrev pub is_for : Request → Field → Bool
-is_for (request.Rd x) field = is_controller field.kind && (nat_le (first_byte field) x && nat_lt x (first_byte field + byte_count field))
-is_for (request.Wr x byte) field = is_controller field.kind && (nat_le (first_byte field) x && nat_lt x (first_byte field + byte_count field))
+is_for (request.Rd x) field = is_controller field.kind
+    && (nat_le (first_byte field) x && nat_lt x (first_byte field + byte_count field))
+is_for (request.Wr x byte) field = is_controller field.kind
+    && (nat_le (first_byte field) x && nat_lt x (first_byte field + byte_count field))
 is_for request.Be field = bursts field
 is_for request.Bd field = bursts field
 is_for request.Qr field = false
@@ -40,15 +43,16 @@ accesses (act.Write c byte) = true
 accesses (act.Ask r) = true
 accesses _ = false
 
--- the act needs the lock wherever it stands: only fields that need the lock have its cell or make its request, or it is a query of a
--- controller that needs the lock
+-- the act needs the lock wherever it stands: only fields that need the lock have its cell or make its request, or it
+-- is a query of a controller that needs the lock
 abbrev pub always_needs : Bool → List Field → Act → Bool
 always_needs glk fields (act.Read c) = is_locked_cell fields c
 always_needs glk fields (act.Write c byte) = is_locked_cell fields c
 always_needs glk fields (act.Ask r) = is_locked_request glk fields r
 always_needs glk fields _ = false
 
--- Each act that needs the lock wherever it stands is marked. While the lock is held each access is marked; no other act is.
+-- Each act that needs the lock wherever it stands is marked. While the lock is held each access is marked; no other
+-- act is.
 abbrev pub Marked : Bool → List Field → Bool → Plan → Type 0
 Marked glk fields held End = ⊤
 Marked glk fields held (Do needs a next) =

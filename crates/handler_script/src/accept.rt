@@ -62,8 +62,8 @@ fn run_behind(run: usize, rest: &[Op]) -> usize
     }
 }
 
-/// As many operations follow as a skip passes over, at least one, and none of them is a hold or a free: so many stand before
-/// the first of these.
+/// As many operations follow as a skip passes over, at least one, and none of them is a hold or a free: so many stand
+/// before the first of these.
 fn is_sound_skip(op: Op, run: usize) -> bool
     ensures { (rest : List Op) → run ≡ prefix_len is_no_hold rest → result ≡ is_sound_skip op rest }
 {
@@ -92,8 +92,8 @@ fn is_balanced(op: Op, held: bool) -> bool
     }
 }
 
-/// The fault of an operation, where a hold is open or not, and so many operations stand behind it before the next hold or
-/// free.
+/// The fault of an operation, where a hold is open or not, and so many operations stand behind it before the next
+/// hold or free.
 fn op_fault<R: EventRules>(
     rules: &R,
     side: Side,

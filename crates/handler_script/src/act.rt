@@ -33,8 +33,9 @@ pub enum Act {
 }
 
 impl Act {
-    /// Whether the act is answered with a byte that goes back to the script: a read is, and of the controller's requests Rd
-    /// and Be (ACPI 6.5, sections 12.3.1 and 12.3.3). A query's code does not go back to it: it makes a job.
+    /// Whether the act is answered with a byte that goes back to the script: a read is, and of the controller's
+    /// requests Rd and Be (ACPI 6.5, sections 12.3.1 and 12.3.3). A query's code does not go back to it: it makes a
+    /// job.
     pub fn brings(&self) -> bool
         ensures { result ≡ brings self.now }
     {

@@ -43,8 +43,8 @@ impl Cursor {
         }
     }
 
-    /// The next act, or `None` where the script has ended. The script is one that is accepted with these fields, and the
-    /// cursor has passed acts of this script with these fields alone.
+    /// The next act, or `None` where the script has ended. The script is one that is accepted with these fields, and
+    /// the cursor has passed acts of this script with these fields alone.
     ///
     /// It takes constant time.
     pub fn next(&self, script: &Script, fields: &[FieldUnit]) -> Option<Act>
@@ -60,8 +60,8 @@ impl Cursor {
         }
     }
 
-    /// Passes the next act, with the byte that it was answered where it brings one ([`Act::brings`]), and the skips that
-    /// follow it. The script, the fields and the cursor are as in [`Cursor::next`].
+    /// Passes the next act, with the byte that it was answered where it brings one ([`Act::brings`]), and the skips
+    /// that follow it. The script, the fields and the cursor are as in [`Cursor::next`].
     pub fn answer(&mut self, script: &Script, fields: &[FieldUnit], byte: Option<u8>)
         requires accepted { Accepted fields.now script.now }
         requires stands { stands fields.now script.now self.old ≡ true }
@@ -101,7 +101,8 @@ impl Cursor {
     fn past_skips(&self, ops: &[Op]) -> Cursor
         requires script { IsScript ops.now }
         requires placed { IsPlaced ops.now self.now }
-        ensures placed { (any : List Field) → is_placed any ops.now self.now ≡ true → is_placed any ops.now result ≡ true }
+        ensures placed { (any : List Field) → is_placed any ops.now self.now ≡ true
+            → is_placed any ops.now result ≡ true }
         ensures left { (any : List Field) → left any ops.now result ≡ left any ops.now self.now }
         ensures act { (o : Op) → slice_get ops.now result.op ≡ Some o → is_skip o ≡ false }
         ensures place { result.place ≡ self.now.place }
@@ -119,7 +120,8 @@ impl Cursor {
         requires script { IsScript ops.now }
         requires placed { IsPlaced ops.now self.now }
         requires at { slice_get ops.now self.now.op ≡ Some (Op.Skip value count) }
-        ensures placed { (any : List Field) → is_placed any ops.now self.now ≡ true → is_placed any ops.now result ≡ true }
+        ensures placed { (any : List Field) → is_placed any ops.now self.now ≡ true
+            → is_placed any ops.now result ≡ true }
         ensures left { (any : List Field) → left any ops.now result ≡ left any ops.now self.now }
         ensures place { result.place ≡ self.now.place }
         ensures held { result.held ≡ self.now.held }
@@ -176,7 +178,8 @@ impl Cursor {
     /// At the operation after this one.
     fn past_op(&self, last: u64, held: bool) -> Cursor
         requires { self.now.op < 4096 }
-        ensures { result ≡ record { op = self.now.op + 1; place = record { stage = Stage.Before; last = last }; held = held } }
+        ensures { result ≡ record { op = self.now.op
+            + 1; place = record { stage = Stage.Before; last = last }; held = held } }
     {
         let place = Place {
             stage: Stage::Before,
@@ -221,7 +224,8 @@ fn field_of(op: Op, fields: &[FieldUnit]) -> Option<FieldUnit>
 fn plain_act(op: Op) -> Act
     requires access { is_access op ≡ false }
     requires skip { is_skip op ≡ false }
-    ensures { (fields : List Field) (held : Bool) (last : ℕ) (next : Bool → ℕ → ℕ → Plan) → next_act (plan_op fields op held last next) ≡ Some result }
+    ensures { (fields : List Field) (held : Bool) (last : ℕ) (next : Bool → ℕ → ℕ → Plan)
+        → next_act (plan_op fields op held last next) ≡ Some result }
 {
     match op {
         Op::Notify(device, value) => Act::Notify(device, value),
@@ -240,7 +244,8 @@ fn plain_act(op: Op) -> Act
 fn held_after(op: Op, held: bool) -> bool
     requires access { is_access op ≡ false }
     requires skip { is_skip op ≡ false }
-    ensures { (fields : List Field) (last byte : ℕ) (next : Bool → ℕ → ℕ → Plan) → plan_after byte (plan_op fields op held last next) ≡ next result last 0 }
+    ensures { (fields : List Field) (last byte : ℕ) (next : Bool → ℕ → ℕ → Plan)
+        → plan_after byte (plan_op fields op held last next) ≡ next result last 0 }
 {
     match op {
         Op::Hold => true,
@@ -253,7 +258,9 @@ fn held_after(op: Op, held: bool) -> bool
 fn started(place: Place, op: Op, field: &FieldUnit, held: bool) -> Place
     requires access { is_access op ≡ true }
     requires entered { is_entered field.now held place.stage ≡ true }
-    ensures same { (next : ℕ → Plan) → rest_of_op op field.now held result.stage result.last next ≡ rest_of_op op field.now held place.stage place.last next }
+    ensures same { (next : ℕ → Plan)
+        → rest_of_op op field.now held result.stage result.last next
+        ≡ rest_of_op op field.now held place.stage place.last next }
     ensures ready { is_ready field.now held result.stage ≡ true }
     ensures going { is_done result.stage ≡ false }
 {

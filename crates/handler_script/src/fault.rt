@@ -7,7 +7,7 @@ pub enum ScriptFault {
     UnknownField(u16),
     /// A skip over no operation, over more than follow, or over a hold or a free.
     BadSkip(u16),
-    /// A script of this side may not have the operation (raise, assert and push are the firmware's; notify, up and down the
-    /// OS's), or the machine forbids it.
+    /// A script of this side may not have the operation (raise, assert and push are the firmware's; notify, up and
+    /// down the OS's), or the machine forbids it.
     NotAllowed(u16),
 }

@@ -13,9 +13,9 @@ ghost use Rattle.handler_script.specs.contracts.fault.ScriptFaultPartialEq.TheIm
 
 use crate::{Act, ScriptFault};
 
-/// The acts for more answers begin with those for fewer. Once the next act is answered, the acts are that act and then those
-/// of what is left. Where there is no answer, a next act that is to be answered with a byte is the only one; where no act is
-/// next there is none.
+/// The acts for more answers begin with those for fewer. Once the next act is answered, the acts are that act and
+/// then those of what is left. Where there is no answer, a next act that is to be answered with a byte is the only
+/// one; where no act is next there is none.
 pub fn law_acts()
     ensures goes_on { GoesOn }
     ensures steps_on { StepsOn }
@@ -23,17 +23,17 @@ pub fn law_acts()
     ensures ends { Ends }
 {}
 
-/// In an accepted script, and in a query job, each act that needs the lock stands where it is held, the lock is taken and
-/// given back in turn, and it is free at the end.
+/// In an accepted script, and in a query job, each act that needs the lock stands where it is held, the lock is taken
+/// and given back in turn, and it is free at the end.
 pub fn law_locked()
     ensures script { LocksInTurn }
     ensures query { (glk : Bool) → Locked false (query_plan glk) }
     ensures empty { Locked false empty_plan }
 {}
 
-/// In an accepted script each access to a cell, and each request to the controller, that only fields which need the lock make is
-/// marked as an act that needs the lock, and so is each while the lock is held. A query is marked exactly if its controller
-/// needs the lock. No other act is marked.
+/// In an accepted script each access to a cell, and each request to the controller, that only fields which need the
+/// lock make is marked as an act that needs the lock, and so is each while the lock is held. A query is marked
+/// exactly if its controller needs the lock. No other act is marked.
 pub fn law_marked()
     ensures script { MarksNeeds }
     ensures query { (glk : Bool) (fields : List Field) → Marked glk fields false (query_plan glk) }
@@ -44,8 +44,8 @@ pub fn law_each()
     ensures { IsTrueOfEach }
 {}
 
-/// Whatever its acts are answered, an accepted script costs no more than the sum over its operations, passed over or not, at
-/// any prices that do not depend on the place or the byte of an access.
+/// Whatever its acts are answered, an accepted script costs no more than the sum over its operations, passed over or
+/// not, at any prices that do not depend on the place or the byte of an access.
 pub fn law_costs()
     ensures { CostsItsOps }
 {}

@@ -1,5 +1,5 @@
-//! Scripts of event handlers and of the firmware: operations in order, with jumps forward and no loops, and the acts that
-//! they mean (ACPI 6.5, sections 5.5.2.4 and 12.3).
+//! Scripts of event handlers and of the firmware: operations in order, with jumps forward and no loops, and the acts
+//! that they mean (ACPI 6.5, sections 5.5.2.4 and 12.3).
 //!
 //! The crate stands on `field_units` and `acpi_regs`, and takes no memory. What a script means is `plan` of
 //! `specs/Plan.antt`: the acts that are left, each going on by the byte that it is answered. A [`Cursor`] stands in a

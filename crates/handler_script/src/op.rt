@@ -2,17 +2,17 @@ use acpi_regs::Event;
 
 /// One operation of a script. A field is named by its index in the description's `fields`.
 ///
-/// An operation on a field that needs the Global Lock takes it first and gives it back, unless a hold is open. On two or
-/// more bytes of the controller's space it stands in burst mode. A byte of which other bits are preserved is read before it
-/// is written.
+/// An operation on a field that needs the Global Lock takes it first and gives it back, unless a hold is open. On two
+/// or more bytes of the controller's space it stands in burst mode. A byte of which other bits are preserved is read
+/// before it is written.
 #[derive(Clone, Copy, Debug)]
 pub enum Op {
     /// Read a field. What was read is the value that a skip tests.
     Read(u16),
     /// Write a value to a field, modulo 2 to the power of the field's width.
     Write(u16, u64),
-    /// Read a field, and write to it what was read plus this number, modulo 2 to the power of the field's width. What was
-    /// read is the value that a skip tests.
+    /// Read a field, and write to it what was read plus this number, modulo 2 to the power of the field's width. What
+    /// was read is the value that a skip tests.
     Add(u16, u64),
     /// Unless the value read last, 0 at first, is `.0`, pass over the next `.1` operations.
     Skip(u64, u16),

@@ -33,8 +33,8 @@ impl Script {
     ghost use Rattle.handler_script.specs.Accepts.{Accepted, IsScript, nothing_forbidden, script_fault};
     ghost use Rattle.handler_script.specs.Left.{Begins};
 
-    /// A script of one side, of at most 4,096 operations. Which events they name is not tested: a script alone does not know
-    /// the events. See [`Script::with_events`].
+    /// A script of one side, of at most 4,096 operations. Which events they name is not tested: a script alone does
+    /// not know the events. See [`Script::with_events`].
     ///
     /// It answers the fault of the first faulty operation; where several rules are broken there, the first of
     /// `NotAllowed`, `UnknownField`, `BadSkip` and `Unbalanced`. A hold that is open at the end comes after every other
@@ -42,7 +42,8 @@ impl Script {
     pub fn new(ops: Vec<Op>, fields: &[FieldUnit], side: Side) -> Result<Script, ScriptFault>
         requires { length ops.items ≤ 4096 }
         ensures exact { MatchResult result
-            (λ script. (script ≡ ops.items) × (script_fault nothing_forbidden side (length fields.now) ops.items ≡ None))
+            (λ script. (script ≡ ops.items)
+                × (script_fault nothing_forbidden side (length fields.now) ops.items ≡ None))
             (λ fault. script_fault nothing_forbidden side (length fields.now) ops.items ≡ Some fault) }
         ensures accepted { IfOk result (λ script. Accepted fields.now script) }
     {
@@ -58,7 +59,8 @@ impl Script {
     ) -> Result<Script, ScriptFault>
         requires { length ops.items ≤ 4096 }
         ensures exact { MatchResult result
-            (λ script. (script ≡ ops.items) × (script_fault (R.forbids events.now) side (length fields.now) ops.items ≡ None))
+            (λ script. (script ≡ ops.items)
+                × (script_fault (R.forbids events.now) side (length fields.now) ops.items ≡ None))
             (λ fault. script_fault (R.forbids events.now) side (length fields.now) ops.items ≡ Some fault) }
         ensures accepted { IfOk result (λ script. Accepted fields.now script) }
     {

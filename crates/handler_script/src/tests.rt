@@ -463,7 +463,8 @@ fn the_first_faulty_operation_is_told(rt: HostRuntime) -> Result<(), Fail> {
 struct NoThirdGpe;
 
 impl EventRules for NoThirdGpe {
-    ghost forbids = { λ _ o. elim o as (λ _. Bool) [ op.Up e ↦ same_event e (event.Gpe 3) | op.Down e ↦ same_event e (event.Gpe 3) | _ ↦ false ] };
+    ghost forbids = { λ _ o. elim o as (λ _. Bool)
+        [ op.Up e ↦ same_event e (event.Gpe 3) | op.Down e ↦ same_event e (event.Gpe 3) | _ ↦ false ] };
 
     fn forbids(&self, op: Op) -> bool {
         match op {

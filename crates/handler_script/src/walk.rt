@@ -1,5 +1,5 @@
-//! From stage to stage of an operation on a field. Each function says that the acts which are left stay the same, or are
-//! those behind the act that was passed.
+//! From stage to stage of an operation on a field. Each function says that the acts which are left stay the same, or
+//! are those behind the act that was passed.
 ghost use Rattle.std.specs.Prelude.{◌≡◌, ◌<◌, Bool, Some, ℕ, false, true};
 ghost use Rattle.field_units.specs.Bits.{byte_count, replaced};
 ghost use Rattle.field_units.specs.Field.{Field};
@@ -16,7 +16,8 @@ use field_units::FieldUnit;
 
 /// Past burst mode: the lock is given back, or the operation is done.
 fn unlocked(last: u64, field: &FieldUnit, held: bool) -> Place
-    ensures same { (o : Op) (next : ℕ → Plan) → rest_of_op o field.now held result.stage result.last next ≡ unlocked field.now held (next last) }
+    ensures same { (o : Op) (next : ℕ → Plan)
+        → rest_of_op o field.now held result.stage result.last next ≡ unlocked field.now held (next last) }
     ensures ready { is_ready field.now held result.stage ≡ true }
 {
     let stage = if takes_lock(field, held) {
@@ -29,7 +30,8 @@ fn unlocked(last: u64, field: &FieldUnit, held: bool) -> Place
 
 /// Past the bytes.
 fn closed(last: u64, field: &FieldUnit, held: bool) -> Place
-    ensures same { (o : Op) (next : ℕ → Plan) → rest_of_op o field.now held result.stage result.last next ≡ closed field.now held (next last) }
+    ensures same { (o : Op) (next : ℕ → Plan)
+        → rest_of_op o field.now held result.stage result.last next ≡ closed field.now held (next last) }
     ensures ready { is_ready field.now held result.stage ≡ true }
 {
     if bursts(field) {
@@ -45,7 +47,8 @@ fn closed(last: u64, field: &FieldUnit, held: bool) -> Place
 /// Past the begin of burst mode.
 fn begun(last: u64, op: Op) -> Place
     requires { is_access op ≡ true }
-    ensures same { (field : Field) (held : Bool) (next : ℕ → Plan) → rest_of_op op field held result.stage result.last next ≡ bytes_of op field held last next }
+    ensures same { (field : Field) (held : Bool) (next : ℕ → Plan)
+        → rest_of_op op field held result.stage result.last next ≡ bytes_of op field held last next }
     ensures ready { (field : Field) (held : Bool) → is_ready field held result.stage ≡ true }
     ensures fits { (field : Field) → stage_fits field result.stage ≡ true }
     ensures going { is_done result.stage ≡ false }
@@ -60,7 +63,8 @@ fn begun(last: u64, op: Op) -> Place
 /// Past the lock.
 pub(crate) fn opened(last: u64, op: Op, field: &FieldUnit, held: bool) -> Place
     requires { is_access op ≡ true }
-    ensures same { (next : ℕ → Plan) → rest_of_op op field.now held result.stage result.last next ≡ opened op field.now held last next }
+    ensures same { (next : ℕ → Plan)
+        → rest_of_op op field.now held result.stage result.last next ≡ opened op field.now held last next }
     ensures ready { is_ready field.now held result.stage ≡ true }
     ensures going { is_done result.stage ≡ false }
 {
@@ -76,7 +80,8 @@ pub(crate) fn opened(last: u64, op: Op, field: &FieldUnit, held: bool) -> Place
 
 /// Past the last byte that is read.
 fn read(value: u64, op: Op, field: &FieldUnit, held: bool) -> Place
-    ensures same { (next : ℕ → Plan) → rest_of_op op field.now held result.stage result.last next ≡ read_done op field.now held next value }
+    ensures same { (next : ℕ → Plan)
+        → rest_of_op op field.now held result.stage result.last next ≡ read_done op field.now held next value }
     ensures ready { is_ready field.now held result.stage ≡ true }
 {
     match op {
@@ -92,7 +97,9 @@ fn read(value: u64, op: Op, field: &FieldUnit, held: bool) -> Place
 pub(crate) fn settled(place: Place, op: Op, field: &FieldUnit, held: bool) -> Place
     requires access { is_access op ≡ true }
     requires fits { stage_fits field.now place.stage ≡ true }
-    ensures same { (next : ℕ → Plan) → rest_of_op op field.now held result.stage result.last next ≡ rest_of_op op field.now held place.stage place.last next }
+    ensures same { (next : ℕ → Plan)
+        → rest_of_op op field.now held result.stage result.last next
+        ≡ rest_of_op op field.now held place.stage place.last next }
     ensures ready { is_ready field.now held result.stage ≡ true }
 {
     let count = field.bytes_of().count;
@@ -141,7 +148,9 @@ pub(crate) fn passed(place: Place, op: Op, field: &FieldUnit, held: bool, byte: 
     requires access { is_access op ≡ true }
     requires ready { is_ready field.now held place.stage ≡ true }
     requires going { is_done place.stage ≡ false }
-    ensures same { (next : ℕ → Plan) → rest_of_op op field.now held result.stage result.last next ≡ plan_after byte (rest_of_op op field.now held place.stage place.last next) }
+    ensures same { (next : ℕ → Plan)
+        → rest_of_op op field.now held result.stage result.last next
+        ≡ plan_after byte (rest_of_op op field.now held place.stage place.last next) }
     ensures fits { stage_fits field.now result.stage ≡ true }
 {
     field.law_fits();

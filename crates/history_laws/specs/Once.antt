@@ -66,7 +66,8 @@ answers_after o d old = old ++ option_to_list (byte_brought o d)
 -- the bytes that its reads and requests were answered
 abbrev pub answers : List Entry → Actor → List ℕ
 answers [] a = []
-answers (e ∷ past) a = if same_actor a e.actor then answers_after (open_of past) e.deed (answers past a) else answers past a
+answers (e ∷ past) a = if same_actor a e.actor then answers_after (open_of past) e.deed (answers past a) else answers
+    past a
 
 abbrev pub begun_after : MachineData → List Job → Deed → Plan → Plan
 begun_after m made (deed.Start j) p = job_plan m (slice_get made j)
@@ -75,19 +76,24 @@ begun_after m made d p = p
 -- what it began
 abbrev pub begun : MachineData → List Entry → Actor → Plan
 begun m [] a = first_plan m a
-begun m (e ∷ past) a = if same_actor a e.actor then begun_after m (jobs m past) e.deed (begun m past a) else begun m past a
+begun m (e ∷ past) a = if same_actor a e.actor then begun_after m (jobs m past) e.deed (begun m past a) else begun m
+    past a
 
 -- ---- the sentences
 
 -- the next act of an actor is the first act of what it began that its entries have not passed
 abbrev pub IsFirstLeft : MachineData → List Entry → Actor → Type 0
-IsFirstLeft m past a = (left : List Act) × (acts_of (begun m past a) (answers past a) ≡ passed past a ++ left) × (slice_get left 0 ≡ next_of m past a)
+IsFirstLeft m past a = (left : List Act) × (acts_of (begun m past a) (answers past a) ≡ passed past a ++ left)
+    × (slice_get left 0 ≡ next_of m past a)
 
 -- each firmware has passed the acts of its script, each once and in its order
 abbrev pub ScriptsOnce : MachineData → List Entry → Type 0
-ScriptsOnce m history = (k : ℕ) → k < length m.firmware → passed (reverse history) (actor.Firmware k) ≡ acts_of (first_left m k) (answers (reverse history) (actor.Firmware k))
+ScriptsOnce m history = (k : ℕ) → k < length m.firmware
+    → passed (reverse history) (actor.Firmware k)
+    ≡ acts_of (first_left m k) (answers (reverse history) (actor.Firmware k))
 
 -- where a job is finished, its worker has passed the acts of the job, each once and in its order
 abbrev pub JobsOnce : MachineData → List Entry → Type 0
 JobsOnce m history = (i j : ℕ) (e : Entry) → slice_get history i ≡ Some e → e.deed ≡ deed.Finish j
-    → passed (past_of history i) e.actor ≡ acts_of (job_plan m (slice_get (jobs m (past_of history i)) j)) (answers (past_of history i) e.actor)
+    → passed (past_of history i) e.actor
+        ≡ acts_of (job_plan m (slice_get (jobs m (past_of history i)) j)) (answers (past_of history i) e.actor)

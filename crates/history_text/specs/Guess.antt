@@ -33,25 +33,31 @@ gpe_or_gbl t k = if slice_index t (k + 1) == 98 then event.Fixed fixed.Gbl else 
 
 -- the event of a first letter
 abbrev pub event_of : ℕ → List ℕ → ℕ → Event
-event_of c t k = if c == 116 then event.Fixed fixed.Tmr else (if c == 112 then event.Fixed fixed.Pwr else (if c == 115 then event.Fixed fixed.Slp else (if c == 114 then event.Fixed fixed.Rtc else gpe_or_gbl t k)))
+event_of c t k = if c == 116 then event.Fixed fixed.Tmr else
+    (if c == 112 then event.Fixed fixed.Pwr else
+    (if c == 115 then event.Fixed fixed.Slp else (if c == 114 then event.Fixed fixed.Rtc else gpe_or_gbl t k)))
 
 abbrev pub event_guess : List ℕ → ℕ → Event
 event_guess t k = event_of (slice_index t k) t k
 
 abbrev pub request_of : ℕ → List ℕ → Request
-request_of key t = if key == 29284 then request.Rd (byte_guess t 9) else (if key == 30578 then request.Wr (byte_guess t 9) (byte_guess t 12) else (if key == 25189 then request.Be else (if key == 25188 then request.Bd else request.Qr)))
+request_of key t = if key == 29284 then request.Rd (byte_guess t 9) else
+    (if key == 30578 then request.Wr (byte_guess t 9) (byte_guess t 12) else
+    (if key == 25189 then request.Be else (if key == 25188 then request.Bd else request.Qr)))
 
 abbrev pub request_guess : List ℕ → Request
 request_guess t = request_of (256 * slice_index t 6 + slice_index t 7) t
 
 abbrev pub move_of : ℕ → List ℕ → HostMove
-move_of c t = if c == 115 then host.Sc (byte_guess t 8) else (if c == 100 then host.Data (byte_guess t 10) else host.Get (byte_guess t 9))
+move_of c t = if c == 115 then host.Sc (byte_guess t 8) else
+    (if c == 100 then host.Data (byte_guess t 10) else host.Get (byte_guess t 9))
 
 abbrev pub move_guess : List ℕ → HostMove
 move_guess t = move_of (slice_index t 5) t
 
 abbrev pub effect_of : ℕ → List ℕ → Effect
-effect_of c t = if c == 116 then effect.Taken else (if c == 111 then effect.Out (byte_guess t 8) else (if c == 112 then effect.Put else effect.Calm))
+effect_of c t = if c == 116 then effect.Taken else
+    (if c == 111 then effect.Out (byte_guess t 8) else (if c == 112 then effect.Put else effect.Calm))
 
 abbrev pub effect_guess : List ℕ → Effect
 effect_guess t = effect_of (slice_index t 4) t

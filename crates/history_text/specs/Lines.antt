@@ -1,5 +1,5 @@
--- Bytes as the lines of a log, and the first line that has no form that may stand there. What a line is, is told by writing
--- alone: a line of an entry is a line that is written for some entry.
+-- Bytes as the lines of a log, and the first line that has no form that may stand there. What a line is, is told by
+-- writing alone: a line of an entry is a line that is written for some entry.
 use Rattle.std.specs.Prelude.{ℕ, zero, suc, ◌<◌, ◌^◌, ◌≡◌, List, [], ◌∷◌, ◌++◌, length, slice_index, codes, Ok}
 use Rattle.acpi_regs.specs.declared.entry.Entry.{Entry}
 use Rattle.acpi_regs.specs.declared.event.Event.{Event}
@@ -19,7 +19,8 @@ machine_text canonical = codes "machine " ++ canonical
 abbrev pub body_lines : List Entry → List Event → ℕ → List ℕ
 body_lines entries stuck rest = entry_lines entries ++ (stuck_lines stuck ++ rest_line rest)
 
--- the lines of a log: the machine's, one an entry, one for each event that is told as stuck, and the last with its number
+-- the lines of a log: the machine's, one an entry, one for each event that is told as stuck, and the last with its
+-- number
 abbrev pub log_lines : List ℕ → List Entry → List Event → ℕ → List ℕ
 log_lines canonical entries stuck rest = machine_line canonical ++ body_lines entries stuck rest
 
@@ -77,12 +78,15 @@ abbrev pub IsWhole : Place → List ℕ → Type 0
 IsWhole End bytes = bytes ≡ []
 IsWhole _ bytes = ⊥
 
--- In bytes that go on from a place, this is the number, from 1, of the first line that may not stand there. Where the bytes
--- end before a line has its newline, or before the last line stands, it is the number of the line that is missing.
+-- In bytes that go on from a place, this is the number, from 1, of the first line that may not stand there. Where the
+-- bytes end before a line has its newline, or before the last line stands, it is the number of the line that is
+-- missing.
 abbrev pub Bad : Place → List ℕ → ℕ → Type 0
 Bad place bytes zero = ⊥
-Bad place bytes (suc zero) = (IsWhole place bytes → ⊥) × ((line rest : List ℕ) (next : Place) → Begins bytes line rest → Leads place line next → ⊥)
-Bad place bytes (suc (suc n)) = (line : List ℕ) × (rest : List ℕ) × (next : Place) × Begins bytes line rest × Leads place line next × Bad next rest (suc n)
+Bad place bytes (suc zero) = (IsWhole place bytes → ⊥)
+    × ((line rest : List ℕ) (next : Place) → Begins bytes line rest → Leads place line next → ⊥)
+Bad place bytes (suc (suc n)) = (line : List ℕ) × (rest : List ℕ) × (next : Place) × Begins bytes line rest
+    × Leads place line next × Bad next rest (suc n)
 
 -- the first bad line of a log
 abbrev pub BadLine : List ℕ → ℕ → Type 0

@@ -1,5 +1,5 @@
-//! Laws over the text of a log, for every entry, machine and history. A law is a function with nothing to do, whose contract
-//! says it.
+//! Laws over the text of a log, for every entry, machine and history. A law is a function with nothing to do, whose
+//! contract says it.
 ghost use Rattle.std.specs.Prelude.{◌≤◌, All};
 ghost use Rattle.acpi_regs.specs.Comparisons.{IsExact};
 ghost use Rattle.machine_desc.specs.Weight.{weight_of};
@@ -50,8 +50,8 @@ pub fn law_canonical(machine: &Machine)
     law_read_back(machine);
 }
 
-/// Each entry of a board has an actor with a name, and its numbers are those of their types. It looks at each entry once, and
-/// changes nothing.
+/// Each entry of a board has an actor with a name, and its numbers are those of their types. It looks at each entry
+/// once, and changes nothing.
 pub fn law_entries(board: &Board)
     ensures { All IsEntry board.now.entries }
 {

@@ -357,8 +357,8 @@ pub fn line_of_rest(entries: u32) -> Line
     line
 }
 
-/// The line of an entry, with its newline. The numbers of a worker go to 3, those of a device and of a firmware to 7: others
-/// have no name.
+/// The line of an entry, with its newline. The numbers of a worker go to 3, those of a device and of a firmware to 7:
+/// others have no name.
 pub fn write_line(entry: &Entry) -> LineText
     requires { IsActor entry.now.actor }
     ensures len { result.len ≤ 48 }

@@ -12,9 +12,9 @@ use acpi_io::{Sink, WriteFault};
 use acpi_regs::{Event, Fixed};
 use machine_core::Board;
 
-/// Writes the log of a board: the line of the machine, around the text that is given for it; then a line for each entry, one
-/// for each event that is parked at the end, and the line with the number of entries. It takes no memory. Only with the
-/// canonical text of the machine is it a log that can be read again.
+/// Writes the log of a board: the line of the machine, around the text that is given for it; then a line for each
+/// entry, one for each event that is parked at the end, and the line with the number of entries. It takes no memory.
+/// Only with the canonical text of the machine is it a log that can be read again.
 ///
 /// Answers `WriteFault` where a write failed; the sink has then taken a front of the text.
 pub fn write_log<K: Sink>(

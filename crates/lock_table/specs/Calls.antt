@@ -68,14 +68,16 @@ SameSeat s t = (t.table ≡ s.table) × (t.id ≡ s.id)
 
 -- ---- the calls
 
--- a turn, whose board begins with what the seat had seen, and has of the seat's actor the entries that it made; or the turn was
--- out
+-- a turn, whose board begins with what the seat had seen, and has of the seat's actor the entries that it made; or
+-- the turn was out
 abbrev pub Enters : {B : Type 0} → (B → List Entry) → (B → Type 0) → View → Entered B → View → Type 0
-Enters entries is v (entered.Turn t) w = is t.board × StartsWith (entries t.board) v.seen × (w ≡ staged stage.Inside (took (entries t.board) v)) × EachPart (MadeIn (entries t.board)) (parts_in v.who)
+Enters entries is v (entered.Turn t) w = is t.board × StartsWith (entries t.board) v.seen
+    × (w ≡ staged stage.Inside (took (entries t.board) v)) × EachPart (MadeIn (entries t.board)) (parts_in v.who)
 Enters entries is v entered.Out w = w ≡ missed 1 v
 
--- Board and words of a table that was closed stand for a sound core, with the parts that the root has, and with every actor
--- that there is not at its start. The board has the table's base, and its history begins with what the root had seen.
+-- Board and words of a table that was closed stand for a sound core, with the parts that the root has, and with every
+-- actor that there is not at its start. The board has the table's base, and its history begins with what the root had
+-- seen.
 pub record Leaves {B X : Type 0} (lists : X → List (List Event)) (base : B → X) (entries : B → List Entry) (key : B) (v : View) (b : B) (words : Words) : Type 0 where
   pub same_base : base b ≡ base key
   pub begins : StartsWith (entries b) v.seen

@@ -1,5 +1,5 @@
--- The pins as five words: fixed events in the first by their PM1 bits (ACPI 6.5, section 4.8.3.1), GPEs in the others, 64 a
--- word.
+-- The pins as five words: fixed events in the first by their PM1 bits (ACPI 6.5, section 4.8.3.1), GPEs in the
+-- others, 64 a word.
 use Rattle.std.specs.Prelude.{ℕ, ◌==◌, Bool, List, slice_index}
 use Rattle.std.specs.Int.{bit_at}
 use Rattle.acpi_regs.specs.declared.event.Event.{Event}

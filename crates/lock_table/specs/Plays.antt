@@ -11,11 +11,12 @@ abbrev pub Mine : Type 0 → Type 0
 Mine B = Me (Option B) View
 
 module _ {B : Type 0} where
-  -- The turn was home: now the seat has the slot with the board, whose history begins with all that was seen, and has of each
-  -- actor that sits here the entries that it made. Or it was out.
+  -- The turn was home: now the seat has the slot with the board, whose history begins with all that was seen, and has
+  -- of each actor that sits here the entries that it made. Or it was out.
   abbrev pub Taken : (B → List Entry) → (B → Type 0) → Step (Option B) → Mine B → ℕ → Mine B → Type 0
   Taken entries is st x n y =
-      (n ≡ 0 → (b : B) × is b × StartsWith (entries b) x.0.seen × (y ≡ (took (entries b) x.0, (0, Some b) ∷ x.1)) × EachPart (MadeIn (entries b)) (parts_in x.0.who))
+      (n ≡ 0 → (b : B) × is b × StartsWith (entries b) x.0.seen × (y ≡ (took (entries b) x.0, (0, Some b) ∷ x.1))
+          × EachPart (MadeIn (entries b)) (parts_in x.0.who))
       × (n ≢ 0 → (n ≡ 1) × (y ≡ (missed n x.0, x.1)))
 
   -- the slot is back, empty, and the board with the caller
@@ -32,4 +33,5 @@ module _ {B : Type 0} where
 
   -- a look by a root that was told of what another seat had seen
   abbrev pub Looked : Step (Option B) → Mine B → ℕ → Mine B → Type 0
-  Looked st x n y = (y ≡ (learned x.0, x.1)) × StartsWith (longer x.0.seen x.0.told) x.0.seen × StartsWith (longer x.0.seen x.0.told) x.0.told
+  Looked st x n y = (y ≡ (learned x.0, x.1)) × StartsWith (longer x.0.seen x.0.told) x.0.seen
+      × StartsWith (longer x.0.seen x.0.told) x.0.told

@@ -20,4 +20,5 @@ HasAllBut away v = (a : Actor) → is_known a ≡ true → is_among a away ≡ f
 
 -- the root has every actor but these, and none of those that it has did anything yet
 abbrev pub HasFreshBut : List Actor → View → Type 0
-HasFreshBut away v = (a : Actor) → is_known a ≡ true → is_among a away ≡ false → find a (root_parts v.who) ≡ Some (fresh a)
+HasFreshBut away v = (a : Actor) → is_known a ≡ true → is_among a away ≡ false
+    → find a (root_parts v.who) ≡ Some (fresh a)

@@ -1,7 +1,7 @@
 -- The rule of the table: between any two of its steps, words, views and board stand for a sound core.
 --
--- Word 0 is 0 where the turn is home and 1 where it is out. Word 1 is the Global Lock's, and five pin words follow. The slot has
--- the board while the turn is home.
+-- Word 0 is 0 where the turn is home and 1 where it is out. Word 1 is the Global Lock's, and five pin words follow.
+-- The slot has the board while the turn is home.
 use Rattle.std.specs.Prelude.{ℕ, ◌≡◌, ◌≢◌, true, false, List, [], ◌∷◌, length, Option, Some, None, IsSome}
 use mathlib.Core.Option as m
 use lib.ListN.{get_elem?}

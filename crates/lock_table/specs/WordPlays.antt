@@ -1,5 +1,5 @@
--- What each step on the Global Lock's word and on a pin word tells its seat: the view before and after, with the slots that the
--- seat holds.
+-- What each step on the Global Lock's word and on a pin word tells its seat: the view before and after, with the
+-- slots that the seat holds.
 use Rattle.std.specs.Prelude.{ℕ, ◌≡◌, ◌<◌, ◌==◌, not, true, List, reverse, Option}
 use Rattle.std.specs.Int.{bit_at}
 use Rattle.atomic_table.specs.Table.{Me, Step}
@@ -34,4 +34,5 @@ module _ {B : Type 0} where
 
   -- the next pin word, which was n, is in hand
   abbrev pub Swept : List (List Event) → Step (Option B) → Me (Option B) View → ℕ → Me (Option B) View → Type 0
-  Swept lists st x n y = (y ≡ (collects n x.0, x.1)) × ForOne (λ p. AreFewer lists x.0.seen (hand_of p.phase)) y.0.who × IsOwn y.0
+  Swept lists st x n y = (y ≡ (collects n x.0, x.1)) × ForOne (λ p. AreFewer lists x.0.seen (hand_of p.phase)) y.0.who
+      × IsOwn y.0

@@ -1,4 +1,5 @@
-//! Laws of the places of pins and of the actors in a table's root: facts for the proofs of the crates above, which cost nothing to call.
+//! Laws of the places of pins and of the actors in a table's root: facts for the proofs of the crates above, which
+//! cost nothing to call.
 ghost use Rattle.std.specs.Prelude.{◌≡◌, List, Some, false, true};
 ghost use Rattle.acpi_regs.specs.Actor.{same_actor};
 ghost use Rattle.acpi_regs.specs.declared.actor.Actor.{Actor};

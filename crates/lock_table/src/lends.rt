@@ -10,7 +10,8 @@ use crate::seat::Turn;
 impl<B> Turn<B> {
     /// The board. When the borrow ends, the turn has what was written through it.
     pub fn board(&mut self) -> &mut B
-        ensures* writes_back { sem 𝓛 (Lends (the_row B.row) B.row self.entry result (λ w. record self.old { board = w })) }
+        ensures* writes_back { sem 𝓛 (Lends (the_row B.row) B.row self.entry result
+            (λ w. record self.old { board = w })) }
         ensures value { result.now ≡ self.old.board }
     {
         &mut self.board

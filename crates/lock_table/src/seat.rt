@@ -7,8 +7,8 @@ use std::marker::Model;
 
 /// One actor's pass to a table, or the root's.
 ///
-/// Contracts see its table, its number there, and what it knows: its actor with phase and entries, and the history that it
-/// has seen.
+/// Contracts see its table, its number there, and what it knows: its actor with phase and entries, and the history
+/// that it has seen.
 #[derive(Drop)]
 pub struct TableSeat {
     pub(crate) badge: Badge<View>,

@@ -19,7 +19,8 @@ impl<B: Recorded + Drop> LockTable<B> {
     /// A table with this board, which has no entries yet, and the root's seat. The lock is free, and no pin is set.
     pub fn new(alloc: Global, board: B) -> Result<(LockTable<B>, TableSeat), Memory>
         requires { B.entries board ≡ [] }
-        ensures table { IfOk result (λ t. (t.1.table ≡ t.0.table.shared.table_id) × (B.base t.0.table.shared.key ≡ B.base board)) }
+        ensures table { IfOk result (λ t. (t.1.table ≡ t.0.table.shared.table_id)
+            × (B.base t.0.table.shared.key ≡ B.base board)) }
         ensures view { IfOk result (λ t. t.1.view ≡ gave [] first_view) }
     {
         let lock = u64::from(Facs::fresh().lock());
@@ -63,10 +64,11 @@ impl<B: Recorded> LockTable<B> {
         self.split_as::<Brand>(root, actor)
     }
 
-    /// Takes the seat of an actor back into the root, which then has the actor with phase and entries, and has seen what each
-    /// of the two had seen.
+    /// Takes the seat of an actor back into the root, which then has the actor with phase and entries, and has seen
+    /// what each of the two had seen.
     pub fn join(&self, root: &mut TableSeat, seat: TableSeat)
-        requires tables { (root.old.table ≡ self.now.table.shared.table_id) × (seat.table ≡ self.now.table.shared.table_id) }
+        requires tables { (root.old.table ≡ self.now.table.shared.table_id)
+            × (seat.table ≡ self.now.table.shared.table_id) }
         requires root { IsRoot root.old.view.who }
         requires seat { IsOne seat.view.who × (seat.view.stage ≡ stage.Away) }
         ensures same { SameSeat root.old root.new }
@@ -82,8 +84,8 @@ impl<B: Recorded> LockTable<B> {
         root.badge = inner.into_badge();
     }
 
-    /// Ends a table, once every actor is back in the root: the board and the words. With the root's view they stand for a
-    /// sound core.
+    /// Ends a table, once every actor is back in the root: the board and the words. With the root's view they stand
+    /// for a sound core.
     pub fn close(self, root: TableSeat) -> (B, Words)
         requires table { root.table ≡ self.table.shared.table_id }
         requires root { IsRoot root.view.who × (root.view.stage ≡ stage.Away) }

@@ -49,9 +49,10 @@ fn pin_of(event: Event) -> (usize, u32)
 }
 
 impl<B: Recorded> LockTable<B> {
-    /// One attempt at the Global Lock (ACPI 6.5, section 5.2.10.1): one load of its word, and one compare-and-exchange
-    /// against the value loaded. Won where the exchange succeeded on a word that was not owned, Marked where it succeeded on
-    /// an owned word, which has Pending set then. Moved where it failed, and left the word as it was.
+    /// One attempt at the Global Lock (ACPI 6.5, section 5.2.10.1): one load of its word, and one
+    /// compare-and-exchange against the value loaded. Won where the exchange succeeded on a word that was not owned,
+    /// Marked where it succeeded on an owned word, which has Pending set then. Moved where it failed, and left the
+    /// word as it was.
     pub fn attempt(&self, seat: &mut TableSeat) -> Attempt
         requires table { seat.old.table ≡ self.now.table.shared.table_id }
         requires seeks { ForOne IsSeeking seat.old.view.who }
@@ -77,7 +78,8 @@ impl<B: Recorded> LockTable<B> {
         }
     }
 
-    /// Releases the Global Lock's word, by one exchange. Whether Pending was set, so that the other side has to be signalled.
+    /// Releases the Global Lock's word, by one exchange. Whether Pending was set, so that the other side has to be
+    /// signalled.
     pub fn release(&self, seat: &mut TableSeat) -> bool
         requires table { seat.old.table ≡ self.now.table.shared.table_id }
         requires quits { ForOne IsQuit seat.old.view.who }
@@ -109,7 +111,8 @@ impl<B: Recorded> LockTable<B> {
         !was_set
     }
 
-    /// Sets the pin of an event, which is the next of the device's list, by one fetch-and-or. Whether the pin was clear.
+    /// Sets the pin of an event, which is the next of the device's list, by one fetch-and-or. Whether the pin was
+    /// clear.
     pub fn pulse(&self, seat: &mut TableSeat, event: Event) -> bool
         requires table { seat.old.table ≡ self.now.table.shared.table_id }
         requires next { ForOne (IsNext (B.Base.lists (B.base self.now.table.shared.key)) event) seat.old.view.who }
@@ -156,8 +159,9 @@ impl<B: Recorded> LockTable<B> {
         }
     }
 
-    /// Takes all pins, by one swap a pin word. Int or poll does so in its turn, once, before it adds entries. Each event that
-    /// it takes has fewer latches among the board's entries than pulses in the lists of the board's devices.
+    /// Takes all pins, by one swap a pin word. Int or poll does so in its turn, once, before it adds entries. Each
+    /// event that it takes has fewer latches among the board's entries than pulses in the lists of the board's
+    /// devices.
     pub fn collect(&self, seat: &mut TableSeat, turn: &mut Turn<B>) -> Bits
         requires table { seat.old.table ≡ self.now.table.shared.table_id }
         requires inside { seat.old.view.stage ≡ stage.Inside }
@@ -166,7 +170,8 @@ impl<B: Recorded> LockTable<B> {
         ensures same { SameSeat seat.old seat.new }
         ensures turn { turn.new ≡ turn.old }
         ensures collects { seat.new.view ≡ with_one (holding (words_of result)) seat.old.view }
-        ensures fewer { AreFewer (B.Base.lists (B.base self.now.table.shared.key)) (B.entries turn.new.board) (words_of result) }
+        ensures fewer { AreFewer (B.Base.lists (B.base self.now.table.shared.key)) (B.entries turn.new.board)
+            (words_of result) }
     {
         let _ = turn;
         self.collect_as::<Brand>(seat)

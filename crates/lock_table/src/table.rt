@@ -6,8 +6,8 @@ use acpi_regs::Recorded;
 use atomic_table::Table;
 use std::alloc::Global;
 
-/// A board with the turn that one seat at a time has, the word of the Global Lock (ACPI 6.5, section 5.2.10.1), and the pins
-/// of all events in five words.
+/// A board with the turn that one seat at a time has, the word of the Global Lock (ACPI 6.5, section 5.2.10.1), and
+/// the pins of all events in five words.
 ///
 /// Every call but `new` takes no memory, and none waits.
 #[derive(Drop)]

@@ -24,7 +24,8 @@ pub(crate) fn risen<B>(badge: Badge<View>) -> Seat<Option<B>, View>
 /// The seat of a badge that is taken out of its place.
 pub(crate) fn taken<B>(badge: &mut Badge<View>) -> Seat<Option<B>, View>
     requires { badge.old.views ≡ view_in badge.old.views ∷ [] }
-    ensures { (result.table_id ≡ badge.old.table_id) × (result.id ≡ badge.old.id) × (result.me ≡ (view_in badge.old.views, [])) }
+    ensures { (result.table_id ≡ badge.old.table_id) × (result.id ≡ badge.old.id)
+        × (result.me ≡ (view_in badge.old.views, [])) }
 {
     risen(mem::replace(badge, Badge::blank()))
 }
@@ -54,20 +55,21 @@ impl<B: Recorded> LockTable<B> {
         Entered::Turn(Turn { board })
     }
 
-    /// Takes the turn, or finds it out, by one compare-and-exchange. The board of the turn has the table's base, and its
-    /// history begins with all that the seat had seen.
+    /// Takes the turn, or finds it out, by one compare-and-exchange. The board of the turn has the table's base, and
+    /// its history begins with all that the seat had seen.
     pub fn enter(&self, seat: &mut TableSeat) -> Entered<B>
         requires table { seat.old.table ≡ self.now.table.shared.table_id }
         requires away { seat.old.view.stage ≡ stage.Away }
         ensures same { SameSeat seat.old seat.new }
-        ensures entered { Enters B.entries (λ b. B.base b ≡ B.base self.now.table.shared.key) seat.old.view result seat.new.view }
+        ensures entered { Enters B.entries (λ b. B.base b ≡ B.base self.now.table.shared.key) seat.old.view result
+            seat.new.view }
     {
         self.enter_as::<Brand>(seat)
     }
 
-    /// Gives the turn back. What its board has more than at `enter` are entries of the seat's actor: first a latch of each
-    /// event that this turn collected, in event order, and no other; of the Global Lock's entries one at most, which the
-    /// actor's phase allows; and a seek only where its side has no seeker. The root adds none.
+    /// Gives the turn back. What its board has more than at `enter` are entries of the seat's actor: first a latch of
+    /// each event that this turn collected, in event order, and no other; of the Global Lock's entries one at most,
+    /// which the actor's phase allows; and a seek only where its side has no seeker. The root adds none.
     pub fn leave(&self, seat: &mut TableSeat, turn: Turn<B>)
         requires table { seat.old.table ≡ self.now.table.shared.table_id }
         requires inside { seat.old.view.stage ≡ stage.Inside }

@@ -58,8 +58,8 @@ pub struct View {
     pub who: Occupant,
     /// The entries that were seen, with which the history begins.
     pub seen: LinkedList<Entry>,
-    /// What a seat that was joined last had seen, and the history begins with, until the root's next look. It is empty but in
-    /// the root, between the two steps of a join.
+    /// What a seat that was joined last had seen, and the history begins with, until the root's next look. It is
+    /// empty but in the root, between the two steps of a join.
     pub told: LinkedList<Entry>,
     /// Whether the seat has the turn.
     pub stage: Stage,

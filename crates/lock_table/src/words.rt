@@ -4,8 +4,8 @@ ghost use Rattle.lock_table.specs.Bits.{IsEvent, is_set};
 
 use acpi_regs::{Event, Fixed};
 
-/// A set of events: fixed events at their bits of the PM1 registers (ACPI 6.5, section 4.8.3.1), GPEs by their numbers, 64
-/// a word.
+/// A set of events: fixed events at their bits of the PM1 registers (ACPI 6.5, section 4.8.3.1), GPEs by their
+/// numbers, 64 a word.
 #[derive(Clone, Copy, Debug)]
 pub struct Bits {
     /// Fixed events.

@@ -1,5 +1,5 @@
--- What the board keeps of each worker and firmware: what it has done with the lock since its seek, the job that it runs, and
--- how far it has come in what it has to do.
+-- What the board keeps of each worker and firmware: what it has done with the lock since its seek, the job that it
+-- runs, and how far it has come in what it has to do.
 use Rattle.std.specs.Prelude.{◌≡◌, ℕ, ◌+◌, nat_lt, not, Bool, true, false, List, length, slice_get, slice_index_or, Option, Some, None, MatchOption, is_some, if◌then◌else◌}
 use Rattle.acpi_regs.specs.declared.actor.Actor.{Actor}
 use Rattle.acpi_regs.specs.declared.actor.Actor.TheVariants as actor
@@ -96,7 +96,8 @@ byte_of _ = None
 abbrev pub FitsNext : MachineData → Course → Option ℕ → Type 0
 FitsNext m course.Ended byte = Unit {0}
 FitsNext m (course.Query s) byte = Unit {0}
-FitsNext m (course.Script p c) byte = MatchOption (next_act (left_in m (script_at m p) c)) ⊥ (λ a. is_some byte ≡ brings a)
+FitsNext m (course.Script p c) byte = MatchOption (next_act (left_in m (script_at m p) c)) ⊥
+    (λ a. is_some byte ≡ brings a)
 
 -- a deed that passes an act fits the next one
 abbrev pub FitsDeed : MachineData → Course → Deed → Type 0
@@ -105,14 +106,17 @@ FitsDeed m c d = passes d ≡ true → FitsNext m c (byte_of d)
 -- ---- each actor
 
 abbrev pub words_of : List Entry → Actor → Words
-words_of past a = record { owned = has_owned a past; disowned = has_disowned a past; busy = is_busy a past; running = running past a }
+words_of past a = record { owned = has_owned a past; disowned = has_disowned a past; busy = is_busy a past; running =
+    running past a }
 
 abbrev pub words_after : Deed → Words → Words
-words_after d old = record { owned = owned_after d old.owned; disowned = disowned_after d old.disowned; busy = busy_after d old.busy; running = running_after d old.running }
+words_after d old = record { owned = owned_after d old.owned; disowned = disowned_after d old.disowned; busy =
+    busy_after d old.busy; running = running_after d old.running }
 
 -- an actor that has done nothing, and has nothing to do
 abbrev pub idle : ActorState
-idle = record { words = record { owned = false; disowned = false; busy = false; running = None }; course = course.Ended }
+idle = record { words = record { owned = false; disowned = false; busy = false; running = None }; course =
+    course.Ended }
 
 -- a deed of the actor moves what is kept of it, where these jobs were made before
 pub record Moves (m : MachineData) (made : List Job) (d : Deed) (old new : ActorState) : Type 0 where
@@ -142,4 +146,5 @@ pub record IsActors (m : MachineData) (past : List Entry) (actors : Actors) : Ty
 
 -- the firmware of this number is at the begin of its script
 abbrev pub IsFirst : ℕ → ActorState → Type 0
-IsFirst k state = (m : MachineData) → (state.words ≡ idle.words) × (left_by m state.course ≡ plan_in m (slice_get m.firmware k)) × Stands m state.course
+IsFirst k state = (m : MachineData)
+    → (state.words ≡ idle.words) × (left_by m state.course ≡ plan_in m (slice_get m.firmware k)) × Stands m state.course

@@ -33,8 +33,8 @@ abbrev pub opener_of : Option Open → Option Actor
 opener_of None = None
 opener_of (Some o) = Some o.by
 
--- Beside its journal the board keeps what the definitions find by looking back, one line a subject. The journal is legal, and
--- there is room for the entries and the jobs to come.
+-- Beside its journal the board keeps what the definitions find by looking back, one line a subject. The journal is
+-- legal, and there is room for the entries and the jobs to come.
 pub record IsKept (m : MachineData) (entries : List Entry) (lock : LockState) (events : Events) (actors : Actors) (jobs : Jobs) (wire : WireData) (cells : List (List ℕ)) (room jobs_room : ℕ) : Type 0 where
   pub legal : LegalPast m (reverse entries)
   pub lock_is : lock ≡ lock_of (reverse entries)
@@ -59,7 +59,8 @@ is_next_effect e (Some f) = same_effect e f
 -- the first event in order that is pending, if one is
 abbrev pub IsFirstPending : MachineData → List Entry → Option Event → Type 0
 IsFirstPending m past None = (n : Event) → pending m past n ≡ false
-IsFirstPending m past (Some n) = (pending m past n ≡ true) × ((k : Event) → event_rank k < event_rank n → pending m past k ≡ false)
+IsFirstPending m past (Some n) = (pending m past n ≡ true)
+    × ((k : Event) → event_rank k < event_rank n → pending m past k ≡ false)
 
 -- nobody owns the Global Lock or competes for it
 abbrev pub IsFree : List Entry → Type 0

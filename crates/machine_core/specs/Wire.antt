@@ -1,5 +1,5 @@
--- The controller and the transaction that is open on it, as the board keeps them: a chip, and beside it how far the host
--- has come.
+-- The controller and the transaction that is open on it, as the board keeps them: a chip, and beside it how far the
+-- host has come.
 use Rattle.std.specs.Prelude.{ℕ, zero, suc, ◌≡◌, ◌≤◌, ◌<◌, ◌≢◌, Bool, true, false, List, length, slice_index, take, Option, Some, None}
 use Rattle.std.specs.List.{find}
 use Rattle.acpi_regs.specs.declared.actor.Actor.{Actor}

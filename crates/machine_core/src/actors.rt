@@ -142,7 +142,8 @@ impl Actors {
         ensures size { length self.new.states ≡ length self.old.states }
         ensures own { seat entry.actor < 12 → Moves machine.now made.now entry.deed
             (state_of self.old.states entry.actor) (state_of self.new.states entry.actor) }
-        ensures others { (a : Actor) → (seat a ≡ seat entry.actor → ⊥) → state_of self.new.states a ≡ state_of self.old.states a }
+        ensures others { (a : Actor) → (seat a ≡ seat entry.actor → ⊥)
+            → state_of self.new.states a ≡ state_of self.old.states a }
         ensures outside { 12 ≤ seat entry.actor → self.new ≡ self.old }
     {
         let seat = seat_of(entry.actor);

@@ -47,8 +47,8 @@ impl Model for Board {
 }
 
 impl Board {
-    /// A board with an empty journal, and room for every entry that the machine can need. The weight of the machine is at most
-    /// 1,048,576.
+    /// A board with an empty journal, and room for every entry that the machine can need. The weight of the machine
+    /// is at most 1,048,576.
     ///
     /// # Errors
     /// `Memory` where room was wanting.

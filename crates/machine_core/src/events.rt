@@ -68,7 +68,8 @@ fn touch_one(chip: &mut EventChip, touched: Option<Touched>)
 /// A latch takes a pulse.
 fn latch(unlatched: &mut [u32], deed: Deed)
     requires { length unlatched.old ≡ 261 }
-    ensures { (n : Event) → IsEvent n → unlatched_of unlatched.new n ≡ unlatched_after n deed (unlatched_of unlatched.old n) }
+    ensures { (n : Event) → IsEvent n
+        → unlatched_of unlatched.new n ≡ unlatched_after n deed (unlatched_of unlatched.old n) }
 {
     if let Deed::Latch(event) = deed {
         let rank = rank_of(event);
@@ -98,7 +99,8 @@ fn pulses_in(alloc: Global, devices: &[Items<Event>]) -> Result<Vec<u32>, AllocE
     requires few { length devices.now ≤ 8 }
     requires short { All (λ pulses. length pulses ≤ 4096) devices.now }
     ensures size { IfOk result (λ counts. length counts.items ≡ 261) }
-    ensures counts { IfOk result (λ counts. (n : Event) → IsEvent n → unlatched_of counts.items n ≡ sum_by (times n) devices.now) }
+    ensures counts { IfOk result (λ counts. (n : Event) → IsEvent n
+        → unlatched_of counts.items n ≡ sum_by (times n) devices.now) }
 {
     let mut counts = no_pulses(alloc)?;
     add_devices(&mut counts, devices);
@@ -129,7 +131,8 @@ fn add_devices(counts: &mut [u32], devices: &[Items<Event>])
 fn add_pulses(counts: &mut [u32], pulses: &[Event])
     requires size { length counts.old ≡ 261 }
     requires room { (k : ℕ) → slice_index counts.old k + length pulses.now < 2 ^ 32 }
-    ensures counts { (n : Event) → IsEvent n → unlatched_of counts.new n ≡ unlatched_of counts.old n + times n pulses.now }
+    ensures counts { (n : Event) → IsEvent n
+        → unlatched_of counts.new n ≡ unlatched_of counts.old n + times n pulses.now }
     ensures most { (k : ℕ) → slice_index counts.new k ≤ slice_index counts.old k + length pulses.now }
 {
     for event in pulses {

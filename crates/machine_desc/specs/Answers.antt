@@ -6,8 +6,8 @@ use Rattle.machine_desc.specs.declared.parts.MachineParts.{MachineParts}
 use Rattle.machine_desc.specs.Machine.{MachineData, described}
 use Rattle.machine_desc.specs.Rules.{first_fault}
 
--- The machine that the parts describe, where they break no rule; or the first rule that they break; or want of memory, where
--- they break none.
+-- The machine that the parts describe, where they break no rule; or the first rule that they break; or want of
+-- memory, where they break none.
 abbrev pub Answers : MachineParts → Result MachineData MachineError → Type 0
 Answers p (Ok m) = (first_fault p ≡ None) × (described p ≡ m)
 Answers p (Err (error.BadMachine bad)) = first_fault p ≡ Some bad

@@ -30,10 +30,12 @@ in_item part index spot = option_map (at_item part index) spot
 -- the items of a part from index k on, in order; the fault of an item may depend on the items before it
 abbrev pub items_from : {A : Type 0} → Part → (List A → A → Option Spot) → List A → ℕ → List A → Option BadMachine
 items_from part fault all k [] = None
-items_from part fault all k (x ∷ xs) = first_of (in_item part k (fault (take k all) x) ∷ items_from part fault all (k + 1) xs ∷ [])
+items_from part fault all k (x ∷ xs) = first_of
+    (in_item part k (fault (take k all) x) ∷ items_from part fault all (k + 1) xs ∷ [])
 
 -- a part: first that it has too many items, and then each
-abbrev pub items_rows : {A : Type 0} → Part → Option Spot → (List A → A → Option Spot) → List A → List (Option BadMachine)
+abbrev pub items_rows : {A : Type 0} → Part → Option Spot → (List A → A → Option Spot) → List A
+    → List (Option BadMachine)
 items_rows part too_many fault items =
     in_item part 0 too_many
     ∷ items_from part fault items 0 items

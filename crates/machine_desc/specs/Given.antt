@@ -94,7 +94,8 @@ have_codes scripts = list_all (λ ops. list_all has_code ops) scripts
 unfoldable pub is_given : MachineParts → Bool
 is_given p =
     is_version p.version
-    && (has_glk p.version p.controller && (list_all is_event_part p.events && (has_queries p.controller && have_codes p.firmware)))
+    && (has_glk p.version p.controller
+        && (list_all is_event_part p.events && (has_queries p.controller && have_codes p.firmware)))
 
 -- some parts describe the machine and break no rule
 pub record IsDescribed (m : MachineData) : Type 0 where

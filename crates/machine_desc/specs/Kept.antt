@@ -42,7 +42,8 @@ abbrev pub queries_in : MachineData → List Query
 queries_in m = queries_of_controller m.controller
 
 abbrev pub counts_in : MachineData → Counts
-counts_in m = record { workers = m.workers; controller = is_some m.controller; devices = length m.devices; firmware = length m.firmware }
+counts_in m = record { workers = m.workers; controller = is_some m.controller; devices = length m.devices; firmware =
+    length m.firmware }
 
 -- ---- the items
 
@@ -72,7 +73,8 @@ pub record IsHandler (m : MachineData) (of_side : Side) (ops : List Op) : Type 0
   pub accepted : Accepted (act_fields m) ops
   pub codes : HaveCodes ops
 
--- a listed event is neither that of the Global Lock nor the controller's; a GPE stands in a block, and alone may be level
+-- a listed event is neither that of the Global Lock nor the controller's; a GPE stands in a block, and alone may be
+-- level
 pub record IsListed (m : MachineData) (e : ListedEvent) : Type 0 where
   pub lock : is_gbl e.listed.event ≡ false
   pub own : is_event_of e.listed.event (own_event m) ≡ false

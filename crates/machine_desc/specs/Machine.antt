@@ -52,7 +52,8 @@ lock_of false = lock.NoLock
 
 -- a field, with what it takes from its region
 abbrev pub field_in : Option RegionPart → FieldPart → Field
-field_in region f = record { region = f.region; kind = kind_of region; len = len_of region; bit = f.bit; width = f.width; lock = lock_of f.lock; update = f.update }
+field_in region f = record { region = f.region; kind = kind_of region; len = len_of region; bit = f.bit; width =
+    f.width; lock = lock_of f.lock; update = f.update }
 
 abbrev pub field_of : List RegionPart → FieldPart → Field
 field_of regions f = field_in (slice_get regions f.region) f
@@ -67,7 +68,8 @@ abbrev pub query_of : QueryPart → Query
 query_of q = record { code = q.code; script = q.script }
 
 abbrev pub controller_of : ControllerPart → ControllerDesc
-controller_of c = record { event = c.event; silent = c.silent; fickle = c.fickle; glk = c.glk; queries = map query_of c.queries }
+controller_of c = record { event = c.event; silent = c.silent; fickle = c.fickle; glk = c.glk; queries = map query_of
+    c.queries }
 
 -- the machine that parts describe
 abbrev pub described : MachineParts → MachineData
@@ -101,7 +103,8 @@ abbrev pub lock_where : Bool → LockRule → LockRule
 lock_where false rule = rule
 lock_where true rule = lock.Lock
 
--- a field with the lock rule that acts go by: Lock where its own rule is Lock, or where its region is the controller's, which needs the lock
+-- a field with the lock rule that acts go by: Lock where its own rule is Lock, or where its region is the
+-- controller's, which needs the lock
 abbrev pub acting : Bool → Field → Field
 acting needs f = record f { lock = lock_where (is_controller f.kind && needs) f.lock }
 

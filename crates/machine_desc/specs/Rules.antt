@@ -36,8 +36,8 @@ use Rattle.machine_desc.specs.Machine.{len_of, listed_part}
 abbrev pub blocks : MachineParts → Blocks
 blocks p = record { gpe0 = p.gpe0; base1 = p.base1; gpe1 = p.gpe1 }
 
--- The most numbers that the blocks may end at, and the most events that may be listed: in version 1 those of 128 GPEs and four fixed
--- events, from version 2 on those of 256 (ACPI 6.5, section 4.8.4.1).
+-- The most numbers that the blocks may end at, and the most events that may be listed: in version 1 those of 128 GPEs
+-- and four fixed events, from version 2 on those of 256 (ACPI 6.5, section 4.8.4.1).
 abbrev pub most_gpes : ℕ → ℕ
 most_gpes version = if version == 1 then 128 else 256
 
@@ -77,7 +77,8 @@ abbrev pub region_fault : Bool → List RegionPart → RegionPart → Option Spo
 region_fault has_controller before r = first_of (region_rows has_controller before r)
 
 unfoldable pub regions_fault : Bool → List RegionPart → Option BadMachine
-regions_fault has_controller regions = in_items part.Region (breaks (nat_lt 16 (length regions)) rule.TooMany) (region_fault has_controller) regions
+regions_fault has_controller regions = in_items part.Region (breaks (nat_lt 16 (length regions)) rule.TooMany)
+    (region_fault has_controller) regions
 
 -- ---- Field
 
@@ -92,7 +93,8 @@ abbrev pub field_rule : List RegionPart → List FieldPart → FieldPart → Opt
 field_rule regions before f = first_of (field_rows regions f)
 
 unfoldable pub fields_fault : List RegionPart → List FieldPart → Option BadMachine
-fields_fault regions fields = in_items part.Field (breaks (nat_lt 256 (length fields)) rule.TooMany) (field_rule regions) fields
+fields_fault regions fields = in_items part.Field (breaks (nat_lt 256 (length fields)) rule.TooMany)
+    (field_rule regions) fields
 
 -- ---- what a machine knows, and what its scripts may name
 
@@ -115,8 +117,8 @@ is_level listed e = list_any (λ x. same_event x.event e && x.level) listed
 abbrev pub is_known : List Listed → Option Event → Event → Bool
 is_known listed own e = is_gbl e || is_event_of e own || is_listed listed e
 
--- The machine forbids the operation: raise names a known event, up and down a listed one, assert and drop a listed level
--- event, and a push wants a controller.
+-- The machine forbids the operation: raise names a known event, up and down a listed one, assert and drop a listed
+-- level event, and a push wants a controller.
 unfoldable pub forbids : List Listed → Option Event → Op → Bool
 forbids listed own (op.Raise e) = not (is_known listed own e)
 forbids listed own (op.Up e) = not (is_listed listed e)
@@ -198,7 +200,8 @@ queries_of None = []
 queries_of (Some c) = c.queries
 
 unfoldable pub queries_fault : (Op → Bool) → ℕ → List QueryPart → Option BadMachine
-queries_fault forbidden fields queries = in_items part.Query (breaks (nat_lt 255 (length queries)) rule.TooMany) (query_fault forbidden fields) queries
+queries_fault forbidden fields queries = in_items part.Query (breaks (nat_lt 255 (length queries)) rule.TooMany)
+    (query_fault forbidden fields) queries
 
 -- ---- Firmware, Device and Schedule
 
@@ -206,7 +209,8 @@ abbrev pub firmware_rule : (Op → Bool) → ℕ → List (List Op) → List Op 
 firmware_rule forbidden fields before ops = script_rule forbidden side.Firmware fields ops
 
 unfoldable pub firmware_fault : (Op → Bool) → ℕ → List (List Op) → Option BadMachine
-firmware_fault forbidden fields firmware = in_items part.Firmware (breaks (nat_lt 8 (length firmware)) rule.TooMany) (firmware_rule forbidden fields) firmware
+firmware_fault forbidden fields firmware = in_items part.Firmware (breaks (nat_lt 8 (length firmware)) rule.TooMany)
+    (firmware_rule forbidden fields) firmware
 
 -- the first pulse of an event that may not be raised
 abbrev pub unknown_pulse : List Listed → Option Event → List Event → Option ℕ
@@ -225,11 +229,13 @@ abbrev pub device_rule : List Listed → Option Event → List (List Event) → 
 device_rule listed own before pulses = first_of (device_rows listed own pulses)
 
 unfoldable pub devices_fault : List Listed → Option Event → List (List Event) → Option BadMachine
-devices_fault listed own devices = in_items part.Device (breaks (nat_lt 8 (length devices)) rule.TooMany) (device_rule listed own) devices
+devices_fault listed own devices = in_items part.Device (breaks (nat_lt 8 (length devices)) rule.TooMany)
+    (device_rule listed own) devices
 
 -- so many of each kind of actor, and a controller or none
 abbrev pub counts : MachineParts → Counts
-counts p = record { workers = p.workers; controller = is_some p.controller; devices = length p.devices; firmware = length p.firmware }
+counts p = record { workers = p.workers; controller = is_some p.controller; devices = length p.devices; firmware =
+    length p.firmware }
 
 -- the machine has the actor
 abbrev pub has_actor : Counts → Actor → Bool
@@ -244,7 +250,8 @@ abbrev pub step_rule : Counts → List Actor → Actor → Option Spot
 step_rule n before a = breaks (not (has_actor n a)) rule.UnknownActor
 
 unfoldable pub schedule_fault : Counts → List Actor → Option BadMachine
-schedule_fault n schedule = in_items part.Schedule (breaks (nat_lt 65536 (length schedule)) rule.TooMany) (step_rule n) schedule
+schedule_fault n schedule = in_items part.Schedule (breaks (nat_lt 65536 (length schedule)) rule.TooMany)
+    (step_rule n) schedule
 
 -- ---- the machine, part by part
 
@@ -256,7 +263,8 @@ machine_rows p =
     ∷ fields_fault p.regions p.fields
     ∷ events_fault p.version (blocks p) (event_of p.controller) (length p.fields) p.events
     ∷ controller_fault (blocks p) (event_of p.controller)
-    ∷ queries_fault (forbids (map listed_part p.events) (event_of p.controller)) (length p.fields) (queries_of p.controller)
+    ∷ queries_fault (forbids (map listed_part p.events) (event_of p.controller)) (length p.fields)
+        (queries_of p.controller)
     ∷ firmware_fault (forbids (map listed_part p.events) (event_of p.controller)) (length p.fields) p.firmware
     ∷ devices_fault (map listed_part p.events) (event_of p.controller) p.devices
     ∷ schedule_fault (counts p) p.schedule

@@ -22,8 +22,8 @@ abbrev pub of_firmware : Side → Bool
 of_firmware side.Os = false
 of_firmware side.Firmware = true
 
--- A script of this side may make the act: the OS notifies, and counts references of listed events; firmware raises, asserts and
--- pushes codes. A request, and a code, are for a controller. The rest is for both.
+-- A script of this side may make the act: the OS notifies, and counts references of listed events; firmware raises,
+-- asserts and pushes codes. A request, and a code, are for a controller. The rest is for both.
 abbrev pub suits_side : MachineData → Side → Bool → Act → Bool
 suits_side m s needs (act.Ask r) = is_some m.controller
 suits_side m s needs (act.Notify d v) = of_os s
@@ -34,7 +34,8 @@ suits_side m s needs (act.Assert n) = of_firmware s
 suits_side m s needs (act.Push q) = of_firmware s && is_some (own_event m)
 suits_side m s needs _ = true
 
--- the script takes the lock and gives it back in turn, holds it where it needs it and not at its end, and makes such acts alone
+-- the script takes the lock and gives it back in turn, holds it where it needs it and not at its end, and makes such
+-- acts alone
 pub record RunsWell (m : MachineData) (s : Side) (ops : List Op) : Type 0 where
   pub locked : Locked false (plan (act_fields m) ops)
   pub suited : Each (suits_side m s) (plan (act_fields m) ops)

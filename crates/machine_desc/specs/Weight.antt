@@ -157,8 +157,9 @@ queries_asked pushed moves calls = if pushed == 0 then 0 else 2 * pushed + moves
 abbrev pub own_claims : Bool → ℕ → ℕ → ℕ → ℕ → ℕ
 own_claims has_controller pushed moves calls asked = if has_controller then pushed + moves + calls + asked else 0
 
--- The firmware's own entries, a pulse's latch, three more a run, a start and a finish of each pushed code, with or without a
--- handler, the claims of the controller's event, fifteen a query, and three for what raises the event of the Global Lock.
+-- The firmware's own entries, a pulse's latch, three more a run, a start and a finish of each pushed code, with or
+-- without a handler, the claims of the controller's event, fifteen a query, and three for what raises the event of
+-- the Global Lock.
 abbrev pub weight_by : MachineData → (pushed moves calls asked : ℕ) → ℕ
 weight_by m pushed moves calls asked =
     firmware_size m

@@ -11,8 +11,8 @@ pub enum Rule {
     BadWorkers,
     /// A part has more items than it may have.
     TooMany,
-    /// A region has no cell, or more than it may have, or fewer than bytes are given; the controller's has not 256, or there
-    /// are two of it, or there is no controller.
+    /// A region has no cell, or more than it may have, or fewer than bytes are given; the controller's has not 256,
+    /// or there are two of it, or there is no controller.
     BadRegion,
     /// A field names no region.
     UnknownRegion,
@@ -40,13 +40,13 @@ pub enum Rule {
     UnknownField,
     /// A skip over no operation, over more than follow, or over a hold or a free.
     BadSkip,
-    /// An operation that may not stand in a script of this side, or names an event that it may not name, or a push where there
-    /// is no controller.
+    /// An operation that may not stand in a script of this side, or names an event that it may not name, or a push
+    /// where there is no controller.
     NotAllowed,
 }
 
-/// A part of a description, in the order in which parts are tested. The items of a part are tested in order, first that there
-/// are not too many, and the rules of an item in the order told here, its script last.
+/// A part of a description, in the order in which parts are tested. The items of a part are tested in order, first
+/// that there are not too many, and the rules of an item in the order told here, its script last.
 #[derive(Clone, Copy, Debug, PartialEq, Eq)]
 pub enum Part {
     /// The GPE blocks: `BadGeometry`, `TooManyEvents`.
@@ -57,8 +57,8 @@ pub enum Part {
     Region,
     /// At most 256 fields: `UnknownRegion`, `BadWidth`, `OutsideRegion`.
     Field,
-    /// At most 132 listed events in version 1, and 260 in version 2: `UnknownEvent`, `TakenEvent`, `BadRefs`, and the rules of a
-    /// script of the OS.
+    /// At most 132 listed events in version 1, and 260 in version 2: `UnknownEvent`, `TakenEvent`, `BadRefs`, and the
+    /// rules of a script of the OS.
     Event,
     /// The controller: `UnknownEvent`.
     Controller,

@@ -2,8 +2,8 @@ ghost use Rattle.std.specs.Prelude.{◌≡◌};
 
 use std::marker::Model;
 
-/// Values in a row, which contracts see as the list of them. It is a `Vec` in another dress: to put one in, or to take it out
-/// again, takes no memory.
+/// Values in a row, which contracts see as the list of them. It is a `Vec` in another dress: to put one in, or to
+/// take it out again, takes no memory.
 #[derive(Debug, Drop)]
 pub struct Items<T> {
     items: Vec<T>,

@@ -45,7 +45,8 @@ pub fn items_fault<T, R: ItemRules<T>>(
     items: &[T],
 ) -> Option<BadMachine>
     requires { limit < 2 ^ 32 }
-    ensures { result ≡ in_items part (breaks (nat_lt limit (length items.now)) rule.TooMany) (R.fault rules.now) items.now }
+    ensures { result ≡ in_items part (breaks (nat_lt limit (length items.now)) rule.TooMany) (R.fault rules.now)
+        items.now }
 {
     if items.len() > limit {
         let spot = Spot {

@@ -10,9 +10,9 @@ ghost use Rattle.machine_desc.specs.contracts.fault.SpotPartialEq.TheImpl as spo
 
 use crate::{BadMachine, MachineError, Part, Place, Rule, Spot};
 
-/// A machine that keeps the rules has a worker, lists neither the event of the Global Lock nor that of its controller, and in
-/// each of its scripts the lock is taken and given back in turn, held where an act needs it, and each act is one that the
-/// script's side may make. Nothing else is asked of a machine for that.
+/// A machine that keeps the rules has a worker, lists neither the event of the Global Lock nor that of its
+/// controller, and in each of its scripts the lock is taken and given back in turn, held where an act needs it, and
+/// each act is one that the script's side may make. Nothing else is asked of a machine for that.
 pub fn law_scripts()
     ensures { ServesAll }
 {}

@@ -1,8 +1,8 @@
 //! A whole machine as its description gives it, with the rules that it keeps.
 //!
-//! The crate stands on `acpi_regs`, `field_units` and `handler_script`. [`Machine::new`] takes the parts that a reader found
-//! and accepts them exactly where they break no rule of `specs/Rules.antt`; else it tells the first that is broken, and where.
-//! From then on contracts see a machine as plain data (`specs/Machine.antt`).
+//! The crate stands on `acpi_regs`, `field_units` and `handler_script`. [`Machine::new`] takes the parts that a
+//! reader found and accepts them exactly where they break no rule of `specs/Rules.antt`; else it tells the first that
+//! is broken, and where. From then on contracts see a machine as plain data (`specs/Machine.antt`).
 #![tactic(auto)]
 
 mod build;

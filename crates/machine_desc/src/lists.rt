@@ -26,7 +26,8 @@ impl ItemRules<Items<Event>> for DeviceRules<'_> {
     ghost use Rattle.machine_desc.specs.Machine.{listed_part};
     ghost use Rattle.machine_desc.specs.Rules as rules;
 
-    ghost fault = { λ s before pulses. rules.device_rule (map listed_part s.events.now.events.now) s.events.now.own before pulses };
+    ghost fault = { λ s before pulses. rules.device_rule (map listed_part s.events.now.events.now) s.events.now.own
+        before pulses };
 
     fn fault(&self, _: &[Items<Event>], pulses: &Items<Event>) -> Option<Spot> {
         let pulses = pulses.as_slice();

@@ -116,9 +116,8 @@ impl Model for Machine {
 impl Machine {
     /// The machine that these parts describe.
     ///
-    /// # Errors
-    /// `BadMachine` exactly where the parts break a rule, with the first, in the order told at [`crate::Part`]. `Memory`
-    /// where they break none and room for the machine was wanting.
+    /// # Errors `BadMachine` exactly where the parts break a rule, with the first, in the order told at
+    /// [`crate::Part`]. `Memory` where they break none and room for the machine was wanting.
     pub fn new(alloc: Global, parts: MachineParts) -> Result<Machine, MachineError>
         requires { IsGiven parts }
         ensures { Answers parts result }
@@ -178,8 +177,8 @@ impl Machine {
         self.fields.as_slice()
     }
 
-    /// The fields, in the description's order, with the lock rules that acts go by: Lock also where the region is the controller's
-    /// and the controller needs the lock.
+    /// The fields, in the description's order, with the lock rules that acts go by: Lock also where the region is the
+    /// controller's and the controller needs the lock.
     pub fn act_fields(&self) -> &[FieldUnit]
         ensures { result.now ≡ act_fields self.now }
     {
@@ -276,8 +275,8 @@ impl Machine {
         })
     }
 
-    /// The same machine in version 2, where its controller says by itself whether it needs the Global Lock. A machine of version 2 is
-    /// its own upgrade. Fails only if memory runs out.
+    /// The same machine in version 2, where its controller says by itself whether it needs the Global Lock. A machine
+    /// of version 2 is its own upgrade. Fails only if memory runs out.
     pub fn upgraded(&self, alloc: Global) -> Result<Machine, Memory>
         ensures { IfOk result (λ machine. machine ≡ up self.now) }
     {

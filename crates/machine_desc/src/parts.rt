@@ -37,8 +37,9 @@ pub struct MachineParts {
 }
 
 impl MachineParts {
-    /// Whether the parts have the form that [`crate::Machine::new`] asks for: version 1 or 2, in version 1 a controller needs the
-    /// Global Lock, no listed event is the Global Lock's, only GPEs are level-triggered, and no query code and no pushed code is 0.
+    /// Whether the parts have the form that [`crate::Machine::new`] asks for: version 1 or 2, in version 1 a
+    /// controller needs the Global Lock, no listed event is the Global Lock's, only GPEs are level-triggered, and no
+    /// query code and no pushed code is 0.
     pub fn is_given(&self) -> bool
         ensures { IsTrue result ↔ IsGiven self.now }
     {

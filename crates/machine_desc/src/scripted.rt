@@ -85,7 +85,8 @@ impl ItemRules<EventPart> for ListedRules<'_> {
     ghost use Rattle.machine_desc.specs.Machine.{listed_part};
     ghost use Rattle.machine_desc.specs.Rules as rules;
 
-    ghost fault = { λ s before e. rules.event_fault (blocks_of s.geometry) s.events.own (rules.forbids (map listed_part s.events.events.now) s.events.own) s.fields before e };
+    ghost fault = { λ s before e. rules.event_fault (blocks_of s.geometry) s.events.own
+        (rules.forbids (map listed_part s.events.events.now) s.events.own) s.fields before e };
 
     fn fault(&self, before: &[EventPart], event: &EventPart) -> Option<Spot> {
         if is_in_no_block(&self.geometry, event.event) {
@@ -165,7 +166,8 @@ impl ItemRules<QueryPart> for ScriptRules<'_> {
     ghost use Rattle.machine_desc.specs.Machine.{listed_part};
     ghost use Rattle.machine_desc.specs.Rules as rules;
 
-    ghost fault = { λ s before q. rules.query_fault (rules.forbids (map listed_part s.events.now.events.now) s.events.now.own) s.fields before q };
+    ghost fault = { λ s before q. rules.query_fault
+        (rules.forbids (map listed_part s.events.now.events.now) s.events.now.own) s.fields before q };
 
     fn fault(&self, before: &[QueryPart], query: &QueryPart) -> Option<Spot> {
         if is_taken(before, query.code) {
@@ -180,7 +182,8 @@ impl ItemRules<Items<Op>> for ScriptRules<'_> {
     ghost use Rattle.machine_desc.specs.Machine.{listed_part};
     ghost use Rattle.machine_desc.specs.Rules as rules;
 
-    ghost fault = { λ s before ops. rules.firmware_rule (rules.forbids (map listed_part s.events.now.events.now) s.events.now.own) s.fields before ops };
+    ghost fault = { λ s before ops. rules.firmware_rule
+        (rules.forbids (map listed_part s.events.now.events.now) s.events.now.own) s.fields before ops };
 
     fn fault(&self, _: &[Items<Op>], ops: &Items<Op>) -> Option<Spot> {
         script_rule(self.events, Side::Firmware, self.fields, ops.as_slice())
@@ -194,7 +197,8 @@ pub fn queries_fault(
     fields: usize,
     queries: &[QueryPart],
 ) -> Option<BadMachine>
-    ensures { result ≡ rules.queries_fault (rules.forbids (map listed_part events.now.events.now) events.now.own) fields queries.now }
+    ensures { result ≡ rules.queries_fault (rules.forbids (map listed_part events.now.events.now) events.now.own)
+        fields queries.now }
 {
     items_fault(Part::Query, 255, &ScriptRules { events, fields }, queries)
 }
@@ -206,7 +210,8 @@ pub fn firmware_fault(
     fields: usize,
     firmware: &[Items<Op>],
 ) -> Option<BadMachine>
-    ensures { result ≡ rules.firmware_fault (rules.forbids (map listed_part events.now.events.now) events.now.own) fields firmware.now }
+    ensures { result ≡ rules.firmware_fault (rules.forbids (map listed_part events.now.events.now) events.now.own)
+        fields firmware.now }
 {
     items_fault(Part::Firmware, 8, &ScriptRules { events, fields }, firmware)
 }

@@ -15,7 +15,8 @@ is_memory (Some region) = not (is_controller region.kind)
 
 -- a cell of a memory region
 abbrev pub is_memory_cell : MachineData → Cell → Bool
-is_memory_cell m c = is_memory (slice_get m.regions c.region) && nat_lt c.offset (cells_in (slice_get m.regions c.region))
+is_memory_cell m c = is_memory (slice_get m.regions c.region)
+    && nat_lt c.offset (cells_in (slice_get m.regions c.region))
 
 -- an address of the controller's space
 abbrev pub is_addressed : Request → Bool
@@ -23,7 +24,8 @@ is_addressed (request.Rd x) = nat_lt x 256
 is_addressed (request.Wr x v) = nat_lt x 256
 is_addressed _ = true
 
--- Bytes are read and written in memory alone, and asked of the controller at its addresses. No code that is pushed is 0.
+-- Bytes are read and written in memory alone, and asked of the controller at its addresses. No code that is pushed is
+-- 0.
 abbrev pub fits : MachineData → Bool → Act → Bool
 fits m needs (act.Read c) = is_memory_cell m c
 fits m needs (act.Write c v) = is_memory_cell m c

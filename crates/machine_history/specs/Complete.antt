@@ -15,8 +15,8 @@ use Rattle.machine_history.specs.Machine.{times}
 use Rattle.machine_history.specs.Scripts.{plan_left}
 use Rattle.machine_history.specs.Wire.{codes, open_of}
 
--- No event has status and is enabled, no query code waits, every job was started and finished, no transaction is open, and
--- nobody owns the Global Lock or competes for it.
+-- No event has status and is enabled, no query code waits, every job was started and finished, no transaction is
+-- open, and nobody owns the Global Lock or competes for it.
 pub record Rest (m : MachineData) (past : List Entry) : Type 0 where
   pub quiet : (n : Event) → pending m past n ≡ false
   pub no_code : codes past ≡ []
@@ -26,11 +26,12 @@ pub record Rest (m : MachineData) (past : List Entry) : Type 0 where
   pub no_owner : owner past ≡ None
   pub no_seeker : (s : Side) → seeker s past ≡ None
 
--- Legal and at rest; each firmware script has ended; each event that a device list names has a latch; each signal of a side
--- stands for a busy of the other.
+-- Legal and at rest; each firmware script has ended; each event that a device list names has a latch; each signal of
+-- a side stands for a busy of the other.
 pub record Complete (m : MachineData) (history : List Entry) : Type 0 where
   pub legal : Legal m history
   pub rest : Rest m (reverse history)
   pub ended : (k : ℕ) → k < length m.firmware → plan_left m (reverse history) (actor.Firmware k) ≡ End
-  pub latched : (k : ℕ) (pulses : List Event) (n : Event) → slice_get m.devices k ≡ Some pulses → 0 < times n pulses → 0 < latches (reverse history) n
+  pub latched : (k : ℕ) (pulses : List Event) (n : Event) → slice_get m.devices k ≡ Some pulses → 0 < times n pulses
+      → 0 < latches (reverse history) n
   pub signals : (s : Side) → leaves s (reverse history) ≤ busies (other s) (reverse history)

@@ -38,8 +38,8 @@ abbrev pub leaves_codes : Option Open → Effect → List ℕ → Bool
 leaves_codes o (effect.Out v) queue = asks_code o && nat_lt 1 (length queue)
 leaves_codes o e queue = false
 
--- A move of the controller raises its event unless the machine is silent. An Out of a query that leaves codes raises it in
--- every case.
+-- A move of the controller raises its event unless the machine is silent. An Out of a query that leaves codes raises
+-- it in every case.
 abbrev pub is_loud : MachineData → Option Open → List ℕ → Effect → Bool
 is_loud m o queue effect.Calm = false
 is_loud m o queue e = not (is_silent m.controller) || leaves_codes o e queue

@@ -35,24 +35,31 @@ abbrev pub needs_lock : Plan → Bool
 needs_lock End = false
 needs_lock (Do needs a next) = needs
 
--- Each access is made for the next act of the actor to whom it is credited, and where that act needs the Global Lock, that
--- actor owns it.
+-- Each access is made for the next act of the actor to whom it is credited, and where that act needs the Global Lock,
+-- that actor owns it.
 abbrev pub AccessesByOwner : MachineData → List Entry → Type 0
-AccessesByOwner m history = (i : ℕ) (e : Entry) (x : Access) → slice_get history i ≡ Some e → access_of m (past_of history i) e ≡ Some x
-    → (made_by m (next_of m (past_of history i) x.by) x ≡ true) × (needs_lock (plan_left m (past_of history i) x.by) ≡ true → owner (past_of history i) ≡ Some x.by)
+AccessesByOwner m history = (i : ℕ) (e : Entry) (x : Access) → slice_get history i ≡ Some e
+    → access_of m (past_of history i) e ≡ Some x
+    → (made_by m (next_of m (past_of history i) x.by) x ≡ true)
+        × (needs_lock (plan_left m (past_of history i) x.by) ≡ true → owner (past_of history i) ≡ Some x.by)
 
 -- each read gives the last byte that was written to its cell, or the description's
 abbrev pub ReadsLast : MachineData → List Entry → Type 0
-ReadsLast m history = (i : ℕ) (e : Entry) (x : Access) → slice_get history i ≡ Some e → access_of m (past_of history i) e ≡ Some x → x.writes ≡ false → x.byte ≡ value m (past_of history i) x.cell
+ReadsLast m history = (i : ℕ) (e : Entry) (x : Access) → slice_get history i ≡ Some e
+    → access_of m (past_of history i) e ≡ Some x → x.writes ≡ false → x.byte ≡ value m (past_of history i) x.cell
 
 abbrev pub entry : Actor → Deed → Entry
 entry a d = record { actor = a; deed = d }
 
 -- between an own and the next one its actor disowns
 abbrev pub DisownsBetween : MachineData → Type 0
-DisownsBetween m = (earlier between later : List Entry) (a b : Actor) → Legal m (earlier ++ (entry a deed.Own ∷ (between ++ (entry b deed.Own ∷ later)))) → (j : ℕ) × (slice_get between j ≡ Some (entry a deed.Disown))
+DisownsBetween m = (earlier between later : List Entry) (a b : Actor)
+    → Legal m (earlier ++ (entry a deed.Own ∷ (between ++ (entry b deed.Own ∷ later))))
+    → (j : ℕ) × (slice_get between j ≡ Some (entry a deed.Disown))
 
 -- the next entry that an actor makes after its disown is its leave
 abbrev pub LeavesNext : MachineData → Type 0
 LeavesNext m =
-    (earlier between later : List Entry) (a : Actor) (d : Deed) → Legal m (earlier ++ (entry a deed.Disown ∷ (between ++ (entry a d ∷ later)))) → ((j : ℕ) (e : Entry) → slice_get between j ≡ Some e → same_actor a e.actor ≡ false) → is_leave d ≡ true
+    (earlier between later : List Entry) (a : Actor) (d : Deed)
+        → Legal m (earlier ++ (entry a deed.Disown ∷ (between ++ (entry a d ∷ later))))
+        → ((j : ℕ) (e : Entry) → slice_get between j ≡ Some e → same_actor a e.actor ≡ false) → is_leave d ≡ true

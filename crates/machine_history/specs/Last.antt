@@ -1,5 +1,5 @@
--- The last entry that touches a piece of state decides it: each piece that the definitions read by looking back, told by the
--- places of a history.
+-- The last entry that touches a piece of state decides it: each piece that the definitions read by looking back, told
+-- by the places of a history.
 use Rattle.std.specs.Prelude.{ℕ, ◌<◌, ◌≡◌, ◌⊎◌, Bool, true, false, ◌&&◌, List, Option, Some, None, slice_get, if◌then◌else◌}
 use Rattle.acpi_regs.specs.declared.actor.Actor.{Actor}
 use Rattle.acpi_regs.specs.declared.actor.Actor.TheVariants as actor
@@ -31,8 +31,8 @@ use Rattle.machine_history.specs.Wire.{Open, open_of}
 
 -- ---- the sentence
 
--- the entry at a place of a history sets the state to this value; `sets` says what an entry makes of it after its past, where
--- it touches it
+-- the entry at a place of a history sets the state to this value; `sets` says what an entry makes of it after its
+-- past, where it touches it
 abbrev pub SetsAt : {X : Type 0} → (List Entry → Entry → Option X) → List Entry → ℕ → X → Type 0
 SetsAt sets history i v = (e : Entry) × (slice_get history i ≡ Some e) × (sets (past_of history i) e ≡ Some v)
 
@@ -44,8 +44,8 @@ SetsLast {X} sets history i v = SetsAt sets history i v × ((j : ℕ) (w : X) �
 abbrev pub NeverSet : {X : Type 0} → (List Entry → Entry → Option X) → List Entry → Type 0
 NeverSet {X} sets history = (i : ℕ) (v : X) → SetsAt sets history i v → ⊥
 
--- The state is what the last entry that sets it made of it, and where none sets it, it is as at the start. One of the two is
--- so.
+-- The state is what the last entry that sets it made of it, and where none sets it, it is as at the start. One of the
+-- two is so.
 pub record IsLast {X : Type 0} (sets : List Entry → Entry → Option X) (first : X) (history : List Entry) (state : X) : Type 0 where
   pub set : (i : ℕ) (v : X) → SetsLast sets history i v → state ≡ v
   pub never : NeverSet sets history → state ≡ first
@@ -92,16 +92,16 @@ busy_set a b deed.Woken = where_true (same_actor a b) false
 busy_set a b deed.Busy = where_true (same_actor a b) true
 busy_set a b _ = None
 
--- A woken by an actor of the side clears its wake. That of the OS is set by a claim of the Global Lock's event, that of the
--- firmware by a signalling leave of the OS's side.
+-- A woken by an actor of the side clears its wake. That of the OS is set by a claim of the Global Lock's event, that
+-- of the firmware by a signalling leave of the OS's side.
 abbrev pub wake_set : Side → Actor → Deed → Option Bool
 wake_set s a deed.Woken = where_true (stands_on s a) false
 wake_set side.Os a (deed.Claim n) = where_true (is_gbl n) true
 wake_set side.Firmware a (deed.Leave true) = where_true (stands_on side.Os a) true
 wake_set s a _ = None
 
--- a raise, latch or assert of the Global Lock's event and a signalling leave of the firmware set its status, and a claim
--- clears it
+-- a raise, latch or assert of the Global Lock's event and a signalling leave of the firmware set its status, and a
+-- claim clears it
 abbrev pub gbl_set : Actor → Deed → Option Bool
 gbl_set a (deed.Raise n) = where_true (is_gbl n) true
 gbl_set a (deed.Latch n) = where_true (is_gbl n) true
@@ -132,8 +132,8 @@ held_by listed _ = None
 abbrev pub held_set : MachineData → Event → List Entry → Entry → Option Bool
 held_set m n past e = held_by (is_listed (kind_of m n)) (done_to n (touched m past e))
 
--- A raise, a latch, an assert, and what else raises the event, set its status. A claim clears it unless the event is level,
--- and the finish of a level event's job makes it the line.
+-- A raise, a latch, an assert, and what else raises the event, set its status. A claim clears it unless the event is
+-- level, and the finish of a level event's job makes it the line.
 abbrev pub status_by : Bool → Bool → Option Touch → Option Bool
 status_by level on (Some touch.Raise) = Some true
 status_by level on (Some touch.Assert) = Some true

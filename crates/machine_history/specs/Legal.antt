@@ -61,8 +61,8 @@ abbrev pub is_ec : MachineData → Actor → Bool
 is_ec m actor.Ec = is_some m.controller
 is_ec m _ = false
 
--- Int and poll step for a worker, and a firmware for itself. Where no begin is open each of them passes, and Begin refuses
--- it.
+-- Int and poll step for a worker, and a firmware for itself. Where no begin is open each of them passes, and Begin
+-- refuses it.
 abbrev pub may_step : MachineData → Option Open → Actor → Bool
 may_step m None a = is_host a || is_firmware m a
 may_step m (Some o) a = if stands_on side.Os o.by then is_host a else (is_firmware m a && same_actor a o.by)
@@ -200,24 +200,30 @@ ctl_row m past e = (rule.Begin, is_some (open_of past)) ∷ (rule.Wire, is_ctl_m
 abbrev pub row : MachineData → List Entry → Actor → Deed → List (LogRule × Bool)
 row m past a deed.Seek = (rule.Next, is_next m past a deed.Seek) ∷ (rule.Seeker, unsought past (side_of a)) ∷ []
 row m past a deed.Busy = (rule.Seeker, is_trying past a) ∷ (rule.Busy, not (is_busy a past)) ∷ []
-row m past a deed.Woken = (rule.Seeker, is_trying past a) ∷ (rule.Busy, is_busy a past) ∷ (rule.Wake, woken_on past (side_of a)) ∷ []
-row m past a deed.Own = (rule.Seeker, is_trying past a) ∷ (rule.Busy, not (is_busy a past)) ∷ (rule.Owner, is_none (owner past)) ∷ []
+row m past a deed.Woken = (rule.Seeker, is_trying past a) ∷ (rule.Busy, is_busy a past)
+    ∷ (rule.Wake, woken_on past (side_of a)) ∷ []
+row m past a deed.Own = (rule.Seeker, is_trying past a) ∷ (rule.Busy, not (is_busy a past))
+    ∷ (rule.Owner, is_none (owner past)) ∷ []
 row m past a deed.Disown = (rule.Owner, is_someone a (owner past)) ∷ (rule.Next, is_next m past a deed.Disown) ∷ []
 row m past a (deed.Leave s) = []
 row m past a (deed.Read c v) = (rule.Next, is_next m past a (deed.Read c v)) ∷ (rule.Value, v == value m past c) ∷ []
 row m past a (deed.Begin r) = (rule.Next, is_next m past a (deed.Begin r)) ∷ (rule.Begin, is_none (open_of past)) ∷ []
-row m past a (deed.Step h) = (rule.Begin, is_some (open_of past)) ∷ (rule.Wire, is_host_move h (next_move m past)) ∷ (rule.Due, not (is_int a) || due m past) ∷ []
+row m past a (deed.Step h) = (rule.Begin, is_some (open_of past)) ∷ (rule.Wire, is_host_move h (next_move m past))
+    ∷ (rule.Due, not (is_int a) || due m past) ∷ []
 row m past a (deed.Ctl e) = ctl_row m past e
-row m past a (deed.Take v) = (rule.Begin, is_opener a (open_of past)) ∷ (rule.Wire, is_some (taking m past)) ∷ (rule.Value, is_taking v (taking m past)) ∷ []
+row m past a (deed.Take v) = (rule.Begin, is_opener a (open_of past)) ∷ (rule.Wire, is_some (taking m past))
+    ∷ (rule.Value, is_taking v (taking m past)) ∷ []
 row m past a (deed.Latch n) = (rule.Latch, nat_lt (latches past n) (pulses_of m n)) ∷ []
 row m past a (deed.Claim n) = (rule.Status, pending m past n) ∷ []
 row m past a (deed.Start j) = (rule.Job, may_start m past a j) ∷ []
-row m past a (deed.Finish j) = (rule.Job, same_number (Some j) (running past a)) ∷ (rule.Next, is_none (next_of m past a)) ∷ []
+row m past a (deed.Finish j) = (rule.Job, same_number (Some j) (running past a))
+    ∷ (rule.Next, is_none (next_of m past a)) ∷ []
 row m past a d = (rule.Next, is_next m past a d) ∷ []
 
 -- Before all others comes Actor. From its disown to its leave an actor may only leave, and no other may.
 abbrev pub conditions : MachineData → List Entry → Actor → Deed → List (LogRule × Bool)
-conditions m past a d = (rule.Actor, may_make m (open_of past) a d) ∷ (rule.Seeker, if has_quit m past a then is_leave d else not (is_leave d)) ∷ row m past a d
+conditions m past a d = (rule.Actor, may_make m (open_of past) a d)
+    ∷ (rule.Seeker, if has_quit m past a then is_leave d else not (is_leave d)) ∷ row m past a d
 
 -- the name of the first condition that fails
 abbrev pub first_failing : List (LogRule × Bool) → Option LogRule

@@ -70,7 +70,8 @@ left_after m made d p = if passes d then plan_after (answer_of d) p else p
 -- what is left for an actor
 abbrev pub plan_left : MachineData → List Entry → Actor → Plan
 plan_left m [] a = first_plan m a
-plan_left m (e ∷ past) a = if same_actor a e.actor then left_after m (jobs m past) e.deed (plan_left m past a) else plan_left m past a
+plan_left m (e ∷ past) a = if same_actor a e.actor then left_after m (jobs m past) e.deed (plan_left m past a) else
+    plan_left m past a
 
 -- the next act of an actor
 abbrev pub next_of : MachineData → List Entry → Actor → Option Act

@@ -1,4 +1,5 @@
--- The sentences that other definitions stand for: parked events, jobs in order, codes, the wire, and what a claim consumes.
+-- The sentences that other definitions stand for: parked events, jobs in order, codes, the wire, and what a claim
+-- consumes.
 use Rattle.std.specs.Prelude.{ℕ, ◌==◌, ◌<◌, ◌≤◌, ◌≡◌, ◌↔◌, Bool, true, false, List, [], ◌∷◌, ◌++◌, length, reverse, count_by, filter_map, flat_map, unwrap_or, Option, Some, None, slice_get, if◌then◌else◌}
 use Rattle.acpi_regs.specs.declared.actor.Actor.TheVariants as actor
 use Rattle.acpi_regs.specs.declared.actor.Side.TheVariants as side
@@ -73,7 +74,8 @@ times_started j history = count_by (λ e. is_start_of j e.deed) history
 abbrev pub times_finished : ℕ → List Entry → ℕ
 times_finished j history = count_by (λ e. is_finish_of j e.deed) history
 
--- the k-th start is `start k`, of a job that was made; a job is started at most once, and finished no more often than started
+-- the k-th start is `start k`, of a job that was made; a job is started at most once, and finished no more often than
+-- started
 pub record JobsInOrder (m : MachineData) (history : List Entry) : Type 0 where
   pub in_order : (k j : ℕ) → slice_get (started_in history) k ≡ Some j → j ≡ k
   pub made : length (started_in history) ≤ length (jobs m (reverse history))
@@ -82,7 +84,8 @@ pub record JobsInOrder (m : MachineData) (history : List Entry) : Type 0 where
 
 -- each job that was made was started once and finished once
 abbrev pub JobsDone : MachineData → List Entry → Type 0
-JobsDone m history = (j : ℕ) → j < length (jobs m (reverse history)) → (times_started j history ≡ 1) × (times_finished j history ≡ 1)
+JobsDone m history = (j : ℕ) → j < length (jobs m (reverse history))
+    → (times_started j history ≡ 1) × (times_finished j history ≡ 1)
 
 -- ---- latches
 
@@ -92,14 +95,16 @@ LatchesFromPulses m history = (n : Event) → latches (reverse history) n ≤ pu
 
 -- ---- claims
 
--- At each claim the event has status and is enabled; and before it, behind every claim of the event before it, stands an
--- entry that set its status.
+-- At each claim the event has status and is enabled; and before it, behind every claim of the event before it, stands
+-- an entry that set its status.
 abbrev pub ConsumesRaise : MachineData → List Entry → ℕ → Event → Type 0
 ConsumesRaise m history i n =
-    (j : ℕ) × (j < i) × SetsAt (status_set m n) history j true × ((k : ℕ) (e : Entry) → j < k → k < i → slice_get history k ≡ Some e → e.deed ≡ deed.Claim n → ⊥)
+    (j : ℕ) × (j < i) × SetsAt (status_set m n) history j true
+        × ((k : ℕ) (e : Entry) → j < k → k < i → slice_get history k ≡ Some e → e.deed ≡ deed.Claim n → ⊥)
 
 abbrev pub ClaimsConsume : MachineData → List Entry → Type 0
-ClaimsConsume m history = (i : ℕ) (e : Entry) (n : Event) → slice_get history i ≡ Some e → e.deed ≡ deed.Claim n → (pending m (past_of history i) n ≡ true) × ConsumesRaise m history i n
+ClaimsConsume m history = (i : ℕ) (e : Entry) (n : Event) → slice_get history i ≡ Some e → e.deed ≡ deed.Claim n
+    → (pending m (past_of history i) n ≡ true) × ConsumesRaise m history i n
 
 -- ---- codes
 
@@ -152,11 +157,13 @@ moves (e ∷ past) = moves_after e.deed (moves past)
 
 -- they are a front of the moves of the open request, with some byte in the blank
 abbrev pub FrontOfWire : List Entry → Open → Type 0
-FrontOfWire past o = (b : ℕ) × (rest : List Move) × (wire o.asks b ≡ moves past ++ rest) × (length (moves past) ≡ o.made)
+FrontOfWire past o = (b : ℕ) × (rest : List Move) × (wire o.asks b ≡ moves past ++ rest)
+    × (length (moves past) ≡ o.made)
 
--- Each step is made while a transaction is open: by the interrupt handler or by polling where one of the OS's side began it, and
--- by the firmware itself where a firmware did. The interrupt handler's comes where it has claimed the controller's event since
--- its last one.
+-- Each step is made while a transaction is open: by the interrupt handler or by polling where one of the OS's side
+-- began it, and by the firmware itself where a firmware did. The interrupt handler's comes where it has claimed the
+-- controller's event since its last one.
 abbrev pub StepsByHosts : MachineData → List Entry → Type 0
 StepsByHosts m history = (i : ℕ) (e : Entry) (h : HostMove) → slice_get history i ≡ Some e → e.deed ≡ deed.Step h
-    → (o : Open) × (open_of (past_of history i) ≡ Some o) × (stands_on side.Os o.by ≡ true → is_host e.actor ≡ true) × (stands_on side.Os o.by ≡ false → e.actor ≡ o.by) × (e.actor ≡ actor.Int → due m (past_of history i) ≡ true)
+    → (o : Open) × (open_of (past_of history i) ≡ Some o) × (stands_on side.Os o.by ≡ true → is_host e.actor ≡ true)
+        × (stands_on side.Os o.by ≡ false → e.actor ≡ o.by) × (e.actor ≡ actor.Int → due m (past_of history i) ≡ true)

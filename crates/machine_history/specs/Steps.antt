@@ -130,8 +130,8 @@ ctl_entry m past a =
 
 -- ---- the steps
 
--- an attempt at the lock, which is a load and an exchange of its word; a release; a pulse; a collect of the pins with the
--- latches of what it found; an entry
+-- an attempt at the lock, which is a load and an exchange of its word; a release; a pulse; a collect of the pins with
+-- the latches of what it found; an entry
 pub data Step : Type 0 where
   Attempts : Step
   Releases : Step
@@ -176,11 +176,16 @@ abbrev pub latch : Actor → Event → Entry
 latch a n = entry a (deed.Latch n)
 
 abbrev pub happens : Core → Actor → Step → Core
-happens c a Attempts = record c { word = acquired c.word; phases = put a (Lock (if is_owned c.word then phase.Marked else phase.Won)) c.phases }
-happens c a Releases = record c { word = released c.word; phases = put a (Lock (phase.Gone (is_pending c.word))) c.phases }
-happens c a (Pulses n) = record c { pins = λ x. c.pins x || same_event x n; phases = put a (pulsed_more n (not (c.pins n)) (c.phases a)) c.phases }
-happens c a Sweeps = record c { pins = no_event; history = c.history ++ map (latch a) (events_of c.pins); phases = put a Free c.phases }
-happens c a (Adds d) = record c { history = c.history ++ entry a d ∷ []; phases = put a (moved_in d (c.phases a)) c.phases }
+happens c a Attempts = record c
+    { word = acquired c.word; phases = put a (Lock (if is_owned c.word then phase.Marked else phase.Won)) c.phases }
+happens c a Releases = record c
+    { word = released c.word; phases = put a (Lock (phase.Gone (is_pending c.word))) c.phases }
+happens c a (Pulses n) = record c
+    { pins = λ x. c.pins x || same_event x n; phases = put a (pulsed_more n (not (c.pins n)) (c.phases a)) c.phases }
+happens c a Sweeps = record c
+    { pins = no_event; history = c.history ++ map (latch a) (events_of c.pins); phases = put a Free c.phases }
+happens c a (Adds d) = record c
+    { history = c.history ++ entry a d ∷ []; phases = put a (moved_in d (c.phases a)) c.phases }
 
 -- one step of an actor, or nothing
 abbrev pub gives : MachineData → Core → Actor → Option Core

@@ -1,5 +1,5 @@
--- Transactions with the controller (ACPI 6.5, sections 12.3 and 12.6): the one that is open, the query codes, burst mode,
--- and the interrupt handler's turn.
+-- Transactions with the controller (ACPI 6.5, sections 12.3 and 12.6): the one that is open, the query codes, burst
+-- mode, and the interrupt handler's turn.
 use Rattle.std.specs.Prelude.{ℕ, ◌+◌, ◌==◌, Bool, true, false, List, [], ◌∷◌, ◌++◌, drop, Option, Some, None, if◌then◌else◌}
 use Rattle.acpi_regs.specs.declared.actor.Actor.{Actor}
 use Rattle.acpi_regs.specs.declared.actor.Actor.TheVariants as actor

@@ -25,8 +25,8 @@ pub fn law_complete_legal()
     ensures { (m : MachineData) (history : List Entry) → Complete m history → Legal m history }
 {}
 
-/// Whatever an actor has left to do: it reads and writes bytes of memory alone, asks the controller for its addresses, and
-/// pushes no code 0.
+/// Whatever an actor has left to do: it reads and writes bytes of memory alone, asks the controller for its
+/// addresses, and pushes no code 0.
 pub fn law_acts_fit()
     ensures { (m : MachineData) (past : List Entry) (a : Actor)
         → IsMachine m → Each (fits m) (plan_left m past a) }
@@ -44,7 +44,8 @@ pub fn law_weight()
 
 /// In a legal history, while a begin is open, the moves since it are a front of the moves of its request.
 pub fn law_wire_front()
-    ensures { (m : MachineData) (history : List Entry) (o : Open) → Legal m history → open_of (reverse history) ≡ Some o → FrontOfWire (reverse history) o }
+    ensures { (m : MachineData) (history : List Entry) (o : Open) → Legal m history
+        → open_of (reverse history) ≡ Some o → FrontOfWire (reverse history) o }
 {}
 
 /// In a legal history each read gives the last byte that was written to its cell, or the description's, also where the
@@ -53,18 +54,19 @@ pub fn law_reads_last()
     ensures { (m : MachineData) (history : List Entry) → Legal m history → ReadsLast m history }
 {}
 
-/// In a legal history of a machine each access is made for the next act of the actor to whom it is credited, also where the
-/// controller makes it, and where that act needs the Global Lock its actor owns it. Between an own and the next own the actor
-/// of the first disowns, and the next entry of an actor after its disown is its leave.
+/// In a legal history of a machine each access is made for the next act of the actor to whom it is credited, also
+/// where the controller makes it, and where that act needs the Global Lock its actor owns it. Between an own and the
+/// next own the actor of the first disowns, and the next entry of an actor after its disown is its leave.
 pub fn law_exclusion()
-    ensures owner { (m : MachineData) (history : List Entry) → IsMachine m → Legal m history → AccessesByOwner m history }
+    ensures owner { (m : MachineData) (history : List Entry) → IsMachine m → Legal m history
+        → AccessesByOwner m history }
     ensures between { (m : MachineData) → DisownsBetween m }
     ensures leaves { (m : MachineData) → LeavesNext m }
 {}
 
-/// In a legal history each step is made while a transaction is open: by the interrupt handler or by polling where one of the
-/// OS's side began it, by the firmware itself where a firmware did; and by the interrupt handler only where it has claimed the
-/// controller's event since its last step.
+/// In a legal history each step is made while a transaction is open: by the interrupt handler or by polling where one
+/// of the OS's side began it, by the firmware itself where a firmware did; and by the interrupt handler only where it
+/// has claimed the controller's event since its last step.
 pub fn law_steps()
     ensures { (m : MachineData) (history : List Entry) → Legal m history → StepsByHosts m history }
 {}

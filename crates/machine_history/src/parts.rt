@@ -1,8 +1,8 @@
 use acpi_regs::{Actor, Cell, Event};
 use event_chip::Touch;
 
-/// One byte read from a cell or written to it, and the actor to whom the access is credited: where the controller makes it
-/// in a transaction, the requester.
+/// One byte read from a cell or written to it, and the actor to whom the access is credited: where the controller
+/// makes it in a transaction, the requester.
 #[derive(Clone, Copy, Debug, PartialEq, Eq)]
 pub struct Access {
     /// The actor to whom it is credited.

@@ -15,5 +15,6 @@ abbrev pub host_adds : MachineData → Actor → List Entry → List Event → L
 host_adds m a past events = if is_empty events then added a (host_entry m past a) else map (latch a) events
 
 -- one step: one turn that collects the pins
-abbrev pub HostSteps : {W : Type 0} → (W → Actor → Call → W → Type 0) → MachineData → Actor → W → StepOutcome → W → Type 0
+abbrev pub HostSteps : {W : Type 0} → (W → Actor → Call → W → Type 0) → MachineData → Actor → W → StepOutcome → W
+    → Type 0
 HostSteps makes m a w o w' = TurnSteps makes true (host_adds m a) a w o w'

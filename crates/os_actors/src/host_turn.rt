@@ -34,7 +34,9 @@ impl Duty for HostTurn {
 
     ghost lock = { λ d. None };
 
-    ghost does = { λ m d d' before after events answer. (after ≡ before ++ host_adds m d.actor (reverse before) events) × (answer ≡ did (host_adds m d.actor (reverse before) events)) };
+    ghost does = { λ m d d' before after events answer.
+        (after ≡ before ++ host_adds m d.actor (reverse before) events)
+        × (answer ≡ did (host_adds m d.actor (reverse before) events)) };
 
     fn actor(&self) -> Actor {
         self.actor

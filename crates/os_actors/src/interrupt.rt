@@ -17,12 +17,12 @@ impl Interrupt {
         Interrupt {}
     }
 
-    /// One step: it collects the pins in one turn and latches each event that was set, in order. Where there was none, and
-    /// it has claimed the controller's event since its last move, it makes the host's next move for a worker; else it
-    /// claims the first pending event.
+    /// One step: it collects the pins in one turn and latches each event that was set, in order. Where there was
+    /// none, and it has claimed the controller's event since its last move, it makes the host's next move for a
+    /// worker; else it claims the first pending event.
     ///
-    /// `machine` is the machine of the world's board. Where the world asks it, the actor is free, and each pin that is set
-    /// has fewer latches than pulses in the device lists.
+    /// `machine` is the machine of the world's board. Where the world asks it, the actor is free, and each pin that
+    /// is set has fewer latches than pulses in the device lists.
     pub fn step<W: World>(&mut self, machine: &Machine, world: &mut W) -> StepOutcome
         requires machine { W.machine world.old ≡ machine.now }
         requires may { W.may world.old Actor.Int (To_turn true None) }

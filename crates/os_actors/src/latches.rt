@@ -17,7 +17,8 @@ use machine_core::Board;
 pub fn latch_all(board: &mut Board, actor: Actor, bits: Bits) -> bool
     requires host { is_host actor ≡ true }
     requires latchable { AreLatchable board.old.machine board.old.entries (pinned bits) }
-    ensures board { board.new ≡ record board.old { entries = board.old.entries ++ map (latch actor) (events_of (pinned bits)) } }
+    ensures board { board.new ≡ record board.old
+        { entries = board.old.entries ++ map (latch actor) (events_of (pinned bits)) } }
     ensures answer { result ≡ not (is_empty (events_of (pinned bits))) }
 {
     if is_clear(&bits) {

@@ -17,11 +17,11 @@ impl Poll {
         Poll {}
     }
 
-    /// One step: it collects the pins in one turn and latches each event that was set, in order. Where there was none it
-    /// makes the host's next move for a worker, else it claims the first pending event.
+    /// One step: it collects the pins in one turn and latches each event that was set, in order. Where there was none
+    /// it makes the host's next move for a worker, else it claims the first pending event.
     ///
-    /// `machine` is the machine of the world's board. Where the world asks it, the actor is free, and each pin that is set
-    /// has fewer latches than pulses in the device lists.
+    /// `machine` is the machine of the world's board. Where the world asks it, the actor is free, and each pin that
+    /// is set has fewer latches than pulses in the device lists.
     pub fn step<W: World>(&mut self, machine: &Machine, world: &mut W) -> StepOutcome
         requires machine { W.machine world.old ≡ machine.now }
         requires may { W.may world.old Actor.Poll (To_turn true None) }

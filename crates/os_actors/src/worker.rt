@@ -40,9 +40,9 @@ impl Worker {
         self.number
     }
 
-    /// One step: the entry for the next act of its job, where the board allows it; between two jobs it finishes the one that
-    /// it runs, or starts the next that waits. While it competes for the Global Lock its phase says what is next: an attempt,
-    /// a release, or an entry.
+    /// One step: the entry for the next act of its job, where the board allows it; between two jobs it finishes the
+    /// one that it runs, or starts the next that waits. While it competes for the Global Lock its phase says what is
+    /// next: an attempt, a release, or an entry.
     ///
     /// `machine` is the machine of the world's board. Where the world tells a phase, it is the worker's.
     pub fn step<W: World>(&mut self, machine: &Machine, world: &mut W) -> StepOutcome
@@ -50,7 +50,8 @@ impl Worker {
         requires may { W.may world.old (Actor.Worker self.old.number) (lock_want self.old.phase) }
         ensures number { self.new.number ≡ self.old.number }
         ensures machine { W.machine world.new ≡ machine.now }
-        ensures steps { ScriptSteps W.makes machine.now (Actor.Worker self.old.number) world.old self.old.phase result world.new self.new.phase }
+        ensures steps { ScriptSteps W.makes machine.now (Actor.Worker self.old.number) world.old self.old.phase result
+            world.new self.new.phase }
     {
         let _ = machine;
         script_step(Actor::Worker(self.number), &mut self.phase, world)

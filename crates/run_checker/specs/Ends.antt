@@ -93,11 +93,12 @@ HasOwn m past (actor.Firmware k) = Has m past (actor.Firmware k) Script ⊎ Has 
 
 -- ---- stuck lines
 
--- The events of the stuck lines are all that the history gives; all but some; or differ at a place. The number is that of the
--- stuck lines, or the place.
+-- The events of the stuck lines are all that the history gives; all but some; or differ at a place. The number is
+-- that of the stuck lines, or the place.
 abbrev pub Tells : List Event → List Event → Ending → Type 0
 Tells told given (ending.Right j) = (told ≡ given) × (j ≡ length told)
-Tells told given (ending.Missing j) = (missing : List Event) × (given ≡ told ++ missing) × (missing ≡ [] → ⊥) × (j ≡ length told)
+Tells told given (ending.Missing j) = (missing : List Event) × (given ≡ told ++ missing) × (missing ≡ [] → ⊥)
+    × (j ≡ length told)
 Tells told given (ending.Other j) = DiffersAt told given j
 
 abbrev pub number_of : Ending → ℕ

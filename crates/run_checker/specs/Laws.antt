@@ -12,8 +12,10 @@ use Rattle.run_checker.specs.Verdict.{Judges}
 
 -- a log has one verdict at most
 abbrev pub OneVerdict : Type 0
-OneVerdict = (m : MachineData) (entries : List Entry) (told : List Event) (last : ℕ) (v w : Verdict) → Judges m entries told last v → Judges m entries told last w → v ≡ w
+OneVerdict = (m : MachineData) (entries : List Entry) (told : List Event) (last : ℕ) (v w : Verdict)
+    → Judges m entries told last v → Judges m entries told last w → v ≡ w
 
 -- a legal history of a machine is complete exactly where no actor has a reason
 abbrev pub CompletesAll : Type 0
-CompletesAll = (m : MachineData) (history : List Entry) → IsMachine m → Legal m history → Complete m history ↔ NoneUnfinished m (reverse history)
+CompletesAll = (m : MachineData) (history : List Entry) → IsMachine m → Legal m history
+    → Complete m history ↔ NoneUnfinished m (reverse history)

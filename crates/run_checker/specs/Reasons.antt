@@ -31,15 +31,16 @@ abbrev pub first_leaver : Side → List Entry → Option Actor
 first_leaver s [] = None
 first_leaver s (e ∷ past) = first_after s e.actor e.deed (first_leaver s past)
 
--- Where a side has more signalling leaves than the other side has busy entries, the actor of its first one answers for them.
+-- Where a side has more signalling leaves than the other side has busy entries, the actor of its first one answers
+-- for them.
 abbrev pub answerable : Side → List Entry → Option Actor
 answerable s past = if nat_lt (busies (other s) past) (leaves s past) then first_leaver s past else None
 
 -- ---- reasons
 
--- An event has status and is enabled. A query code waits. An event of a device's list has no latch. A worker's request is open
--- and the host's move is next. A job was not started. A worker runs a job. The controller's move is next in an open request.
--- A script has not ended. A firmware competes for the Global Lock. A signal has no busy.
+-- An event has status and is enabled. A query code waits. An event of a device's list has no latch. A worker's
+-- request is open and the host's move is next. A job was not started. A worker runs a job. The controller's move is
+-- next in an open request. A script has not ended. A firmware competes for the Global Lock. A signal has no busy.
 pub data Reason : Type 0 where
   Pending : Reason
   Code : Reason
@@ -57,8 +58,10 @@ abbrev pub Has : MachineData → List Entry → Actor → Reason → Type 0
 Has m past a Signal = (s : Side) × (answerable s past ≡ Some a)
 Has m past actor.Int Pending = (n : Event) × (pending m past n ≡ true)
 Has m past actor.Int Code = codes past ≡ [] → ⊥
-Has m past actor.Int Pulse = (k : ℕ) × (pulses : List Event) × (n : Event) × (slice_get m.devices k ≡ Some pulses) × (0 < times n pulses) × (latches past n ≡ 0)
-Has m past actor.Poll HostMove = (o : Open) × (open_of past ≡ Some o) × (stands_on side.Os o.by ≡ true) × (is_some (host_move m past) ≡ true)
+Has m past actor.Int Pulse = (k : ℕ) × (pulses : List Event) × (n : Event) × (slice_get m.devices k ≡ Some pulses)
+    × (0 < times n pulses) × (latches past n ≡ 0)
+Has m past actor.Poll HostMove = (o : Open) × (open_of past ≡ Some o) × (stands_on side.Os o.by ≡ true)
+    × (is_some (host_move m past) ≡ true)
 Has m past (actor.Worker zero) Job = starts past < length (jobs m past)
 Has m past (actor.Worker k) Run = is_some (running past (actor.Worker k)) ≡ true
 Has m past actor.Ec CtlMove = is_some (ctl_move m past) ≡ true

@@ -16,8 +16,8 @@ use Rattle.run_checker.specs.Reasons.{IsFirstUnfinished}
 
 -- ---- entries
 
--- The entries before one are legal, and that one is not allowed, by this rule. The machine has the first line, and each entry
--- one of its own.
+-- The entries before one are legal, and that one is not allowed, by this rule. The machine has the first line, and
+-- each entry one of its own.
 pub record BrokenAt (m : MachineData) (entries : List Entry) (line : ℕ) (broken : LogRule) : Type 0 where
   pub place : ℕ
   pub entry : Entry
@@ -36,16 +36,19 @@ IsRightEnd m entries told last = (told ≡ stuck m entries) × (last ≡ length 
 abbrev pub DiffersAt : List Event → List Event → ℕ → Type 0
 DiffersAt told given j = (take j told ≡ take j given) × (j < length told) × (slice_get told j ≡ slice_get given j → ⊥)
 
--- the first line behind the entries that is not what the history gives: a stuck line, or the last where the stuck lines are
--- those of the history as far as they go, and one is missing or the number is another
+-- the first line behind the entries that is not what the history gives: a stuck line, or the last where the stuck
+-- lines are those of the history as far as they go, and one is missing or the number is another
 abbrev pub IsWrongLine : MachineData → List Entry → List Event → ℕ → ℕ → Type 0
 IsWrongLine m entries told last line =
     ((j : ℕ) × DiffersAt told (stuck m entries) j × (line ≡ length entries + j + 2))
-    ⊎ ((missing : List Event) × (stuck m entries ≡ told ++ missing) × (IsRightEnd m entries told last → ⊥) × (line ≡ length entries + length told + 2))
+    ⊎ ((missing : List Event) × (stuck m entries ≡ told ++ missing) × (IsRightEnd m entries told last → ⊥)
+        × (line ≡ length entries + length told + 2))
 
 -- ---- the verdict
 
 abbrev pub Judges : MachineData → List Entry → List Event → ℕ → Verdict → Type 0
 Judges m entries told last verdict.Complete = Complete m entries × IsRightEnd m entries told last
-Judges m entries told last (verdict.Illegal line broken) = BrokenAt m entries line broken ⊎ (Legal m entries × IsWrongLine m entries told last line × (broken ≡ rule.Rest))
-Judges m entries told last (verdict.Unfinished a) = Legal m entries × IsRightEnd m entries told last × IsFirstUnfinished m (reverse entries) a
+Judges m entries told last (verdict.Illegal line broken) = BrokenAt m entries line broken
+    ⊎ (Legal m entries × IsWrongLine m entries told last line × (broken ≡ rule.Rest))
+Judges m entries told last (verdict.Unfinished a) = Legal m entries × IsRightEnd m entries told last
+    × IsFirstUnfinished m (reverse entries) a

@@ -14,9 +14,9 @@ use machine_core::Board;
 use machine_history::LogRule;
 use std::alloc::Global;
 
-/// Judges a log: whether it is a complete legal history of its machine, else its first line that breaks a rule, and which,
-/// else the first actor that has something left to do. The entries are made one after another on a board; it takes memory
-/// for the board alone.
+/// Judges a log: whether it is a complete legal history of its machine, else its first line that breaks a rule, and
+/// which, else the first actor that has something left to do. The entries are made one after another on a board; it
+/// takes memory for the board alone.
 ///
 /// # Errors
 /// `Memory` where room was wanting.

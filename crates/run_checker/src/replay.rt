@@ -6,8 +6,8 @@ use acpi_regs::Entry;
 use machine_core::Board;
 use machine_history::LogRule;
 
-/// Makes the entries one after another on a board that has none. Where one is not allowed it stops, and tells the entry's
-/// line and the rule; the board then has the entries before it.
+/// Makes the entries one after another on a board that has none. Where one is not allowed it stops, and tells the
+/// entry's line and the rule; the board then has the entries before it.
 pub fn replay(board: &mut Board, entries: &[Entry]) -> Option<(u32, LogRule)>
     requires empty { board.old.entries ≡ [] }
     requires light { weight_of board.old.machine ≤ 1048576 }

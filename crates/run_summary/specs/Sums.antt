@@ -10,8 +10,8 @@ use Rattle.machine_maker.specs.Maker.{made}
 use Rattle.machine_maker.specs.Summary.{last_byte, one_add, one_push, over_firmware, summary}
 use Rattle.run_summary.specs.Told.{adds, cell_of, notifies, runs, told}
 
--- Firmware writes a byte for each addition. For each push one job is made that runs a code, one such job is started, and one
--- notify is made. Each cell ends as what the operations add to it.
+-- Firmware writes a byte for each addition. For each push one job is made that runs a code, one such job is started,
+-- and one notify is made. Each cell ends as what the operations add to it.
 pub record IsSummed (number size : ℕ) (past : List Entry) : Type 0 where
   pub written : adds past ≡ over_firmware one_add (made number size)
   pub made_jobs : length (codes_of (jobs (made number size) past)) ≡ over_firmware one_push (made number size)
@@ -21,8 +21,10 @@ pub record IsSummed (number size : ℕ) (past : List Entry) : Type 0 where
 
 -- so it is in every complete history, whatever the schedule
 abbrev pub SumsOperations : Type 0
-SumsOperations = (number size : ℕ) (history : List Entry) → IsMachine (made number size) → Complete (made number size) history → IsSummed number size (reverse history)
+SumsOperations = (number size : ℕ) (history : List Entry) → IsMachine (made number size)
+    → Complete (made number size) history → IsSummed number size (reverse history)
 
 -- and each tells the same three lines
 abbrev pub TellsSummary : Type 0
-TellsSummary = (number size : ℕ) (history : List Entry) → IsMachine (made number size) → Complete (made number size) history → told number size (made number size) (reverse history) ≡ summary number size
+TellsSummary = (number size : ℕ) (history : List Entry) → IsMachine (made number size)
+    → Complete (made number size) history → told number size (made number size) (reverse history) ≡ summary number size

@@ -62,7 +62,8 @@ bytes_of m past count = each_of count (λ k. value m past (cell_of k))
 -- ---- the summary that a history tells, the newest entry first
 
 abbrev pub told : (number size : ℕ) → MachineData → List Entry → List ℕ
-told number size m past = summary_text number size (weight_of m) (adds past) (runs m past) (notifies past) (bytes_of m past 16)
+told number size m past = summary_text number size (weight_of m) (adds past) (runs m past) (notifies past)
+    (bytes_of m past 16)
 
 -- ---- for private clauses: a walk over the entries
 
@@ -78,7 +79,8 @@ asks_after (deed.Take v) old = false
 asks_after d old = old
 
 abbrev pub tally_after : Actor → Deed → Tally → Tally
-tally_after a d t = record { adds = adds_by a d + t.adds; codes = codes_by t.asks d + t.codes; notifies = notifies_by d + t.notifies; asks = asks_after d t.asks }
+tally_after a d t = record { adds = adds_by a d + t.adds; codes = codes_by t.asks d
+    + t.codes; notifies = notifies_by d + t.notifies; asks = asks_after d t.asks }
 
 abbrev pub tally_of : List Entry → Tally
 tally_of [] = record { adds = 0; codes = 0; notifies = 0; asks = false }

@@ -13,9 +13,9 @@ use acpi_regs::Cell;
 use machine_core::Board;
 use machine_maker::laws::law_made;
 
-/// The summary of a run of the machine of a number and of a size to 64 ([`machine_maker::make`]), whose complete history the
-/// board has. It is counted in that history: the bytes that firmware wrote, the codes that queries took, each of which
-/// started a run, and the notify entries; the cells are those of the board. It takes no memory.
+/// The summary of a run of the machine of a number and of a size to 64 ([`machine_maker::make`]), whose complete
+/// history the board has. It is counted in that history: the bytes that firmware wrote, the codes that queries took,
+/// each of which started a run, and the notify entries; the cells are those of the board. It takes no memory.
 pub fn summarize(board: &Board, number: u32, size: u8) -> SummaryText
     requires few { size ≤ 64 }
     requires machine { board.now.machine ≡ made number size }

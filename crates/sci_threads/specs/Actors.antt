@@ -36,15 +36,19 @@ stands (any.Ec c) = Free
 stands (any.Device d) = Pulsed d.pulses
 stands (any.Firmware f) = Lock f.phase
 
--- One step of an actor as its own kind has it, over a world whose calls make this of it: one call, the outcome that the call's
--- answer gives, and the actor behind it. A device whose list is through makes none.
-abbrev pub StepsAs : {W : Type 0} → (W → Actor → Call → W → Type 0) → MachineData → AnyActor → W → StepOutcome → W → AnyActor → Type 0
+-- One step of an actor as its own kind has it, over a world whose calls make this of it: one call, the outcome that
+-- the call's answer gives, and the actor behind it. A device whose list is through makes none.
+abbrev pub StepsAs : {W : Type 0} → (W → Actor → Call → W → Type 0) → MachineData → AnyActor → W → StepOutcome → W
+    → AnyActor → Type 0
 StepsAs makes m (any.Int i) before o after y = HostSteps makes m actor.Int before o after
 StepsAs makes m (any.Poll p) before o after y = HostSteps makes m actor.Poll before o after
 StepsAs makes m (any.Ec c) before o after y = CtlSteps makes m before o after
-StepsAs makes m (any.Worker w) before o after y = (q : LockPhase) × (stands y ≡ Lock q) × ScriptSteps makes m (actor.Worker w.number) before w.phase o after q
-StepsAs makes m (any.Firmware f) before o after y = (q : LockPhase) × (stands y ≡ Lock q) × ScriptSteps makes m (actor.Firmware f.number) before f.phase o after q
-StepsAs makes m (any.Device d) before o after y = (ps : List Pulse) × (stands y ≡ Pulsed ps) × DeviceSteps makes m d.number before d.pulses o after ps
+StepsAs makes m (any.Worker w) before o after y = (q : LockPhase) × (stands y ≡ Lock q)
+    × ScriptSteps makes m (actor.Worker w.number) before w.phase o after q
+StepsAs makes m (any.Firmware f) before o after y = (q : LockPhase) × (stands y ≡ Lock q)
+    × ScriptSteps makes m (actor.Firmware f.number) before f.phase o after q
+StepsAs makes m (any.Device d) before o after y = (ps : List Pulse) × (stands y ≡ Pulsed ps)
+    × DeviceSteps makes m d.number before d.pulses o after ps
 
 -- the phases of the actors in a row; every other actor is at its start
 abbrev pub phases_of : List AnyActor → Actor → Phase

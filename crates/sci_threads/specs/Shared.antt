@@ -37,9 +37,9 @@ pub record IsReady (id : TableId) (a : Actor) (f : Phase) (s : Pass) : Type 0 wh
 abbrev pub SeenMakes : MachineData → View → Actor → Call → View → Type 0
 SeenMakes m v a call w = SeatMakes m v call w
 
--- One step over a seat, as the actor's own kind has it. It rests on what the seat did in that call: an attempt or a release at
--- the Global Lock's word, a pulse, a turn that was taken and given back, for int and poll with five collects in it, or a turn
--- that was found out. A device whose list is through does nothing.
+-- One step over a seat, as the actor's own kind has it. It rests on what the seat did in that call: an attempt or a
+-- release at the Global Lock's word, a pulse, a turn that was taken and given back, for int and poll with five
+-- collects in it, or a turn that was found out. A device whose list is through does nothing.
 abbrev pub SeatSteps : MachineData → AnyActor → View → StepOutcome → View → AnyActor → Type 0
 SeatSteps m x v o w y = StepsAs (SeenMakes m) m x v o w y
 
@@ -47,7 +47,8 @@ SeatSteps m x v o w y = StepsAs (SeenMakes m) m x v o w y
 
 -- a firmware that is idle and whose script is through, by its own entries; a device whose list is through
 abbrev pub ends_as : MachineData → Actor → Part → Bool
-ends_as m (actor.Firmware k) p = is_idle (lock_phase (phase_of p.phase)) && is_none (next_of m (reverse p.mine) (actor.Firmware k))
+ends_as m (actor.Firmware k) p = is_idle (lock_phase (phase_of p.phase))
+    && is_none (next_of m (reverse p.mine) (actor.Firmware k))
 ends_as m (actor.Device k) p = is_none (next_pulse m k (pulses_of p.phase))
 ends_as m _ p = false
 

@@ -46,9 +46,9 @@ impl AnyActor {
         }
     }
 
-    /// One step of the actor over a world of one thread: exactly what it is given, from every core that the world and its
-    /// phase stand for, and the outcome that its own kind tells. The caller sees to it that each pin that is set has fewer latches
-    /// than pulses in the device lists.
+    /// One step of the actor over a world of one thread: exactly what it is given, from every core that the world and
+    /// its phase stand for, and the outcome that its own kind tells. The caller sees to it that each pin that is set
+    /// has fewer latches than pulses in the device lists.
     pub fn step(&mut self, machine: &Machine, world: &mut SerialWorld) -> StepOutcome
         requires machine { world.old.board.machine ≡ machine.now }
         requires latchable { AreLatchable machine.now world.old.board.entries (pins_of world.old) }
@@ -57,7 +57,8 @@ impl AnyActor {
         ensures gives { (phases : Actor → Phase) → phases (who self.old) ≡ stands self.old
             → gives machine.now (core_of world.old phases) (who self.old)
             ≡ after_step result (core_of world.new (put (who self.old) (stands self.new) phases)) }
-        ensures stays { is_stepped result ≡ false → ((phases : Actor → Phase) → core_of world.new phases ≡ core_of world.old phases)
+        ensures stays { is_stepped result ≡ false
+            → ((phases : Actor → Phase) → core_of world.new phases ≡ core_of world.old phases)
             × (stands self.new ≡ stands self.old) }
         ensures answers { StepsAs SerialMakes machine.now self.old world.old result world.new self.new }
     {

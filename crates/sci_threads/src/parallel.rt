@@ -49,7 +49,9 @@ fn run_seats<R: Threads + Sync, G: Gate>(
 )
     requires machine { table.now.table.shared.key.machine ≡ machine.now }
     requires agree { All (λ x. Agrees table.now.table.shared.table_id x) seats.old }
-    ensures { (i : ℕ) (d : ActorSeat) → i < length seats.old → RanOn machine.now table.now.table.shared.table_id turns (slice_index_or seats.old i d) (slice_index_or seats.new i d) }
+    ensures { (i : ℕ) (d : ActorSeat) → i < length seats.old
+        → RanOn machine.now table.now.table.shared.table_id turns (slice_index_or seats.old i d)
+        (slice_index_or seats.new i d) }
 {
     let count = seats.len();
     if count == 0 {
@@ -60,18 +62,19 @@ fn run_seats<R: Threads + Sync, G: Gate>(
         seats,
         count,
         &|_, at: &mut ActorSeat|
-            requires { (table.now.table.shared.key.machine ≡ machine.now) × Agrees table.now.table.shared.table_id at.old }
+            requires { (table.now.table.shared.key.machine ≡ machine.now)
+                × Agrees table.now.table.shared.table_id at.old }
             ensures { RanOn machine.entry.now table.entry.now.table.shared.table_id turns at.old at.new }
         { run_one(table, machine, at, turns, gate) },
     );
 }
 
-/// Runs each actor beside the others, on a thread of its own where one can be had. Each passes the gate and makes a step, at
-/// most `turns` times, and stops at its end.
+/// Runs each actor beside the others, on a thread of its own where one can be had. Each passes the gate and makes a
+/// step, at most `turns` times, and stops at its end.
 ///
-/// `machine` is the machine of the table's board, and each seat is one of this table without a turn, which has its actor in its
-/// phase. So it is afterwards. Then each actor is at its end, a firmware idle with its script through or a device with its
-/// list through, or its seat tells of `turns` steps more.
+/// `machine` is the machine of the table's board, and each seat is one of this table without a turn, which has its
+/// actor in its phase. So it is afterwards. Then each actor is at its end, a firmware idle with its script through or
+/// a device with its list through, or its seat tells of `turns` steps more.
 pub fn run_parallel<R: Threads + Sync, G: Gate>(
     rt: &R,
     table: &LockTable<Board>,
@@ -83,7 +86,9 @@ pub fn run_parallel<R: Threads + Sync, G: Gate>(
     requires machine { table.now.table.shared.key.machine ≡ machine.now }
     requires agree { All (λ x. Agrees table.now.table.shared.table_id x) seats.old.items }
     ensures count { length seats.new.items ≡ length seats.old.items }
-    ensures each { (i : ℕ) (d : ActorSeat) → i < length seats.old.items → RanOn machine.now table.now.table.shared.table_id turns (slice_index_or seats.old.items i d) (slice_index_or seats.new.items i d) }
+    ensures each { (i : ℕ) (d : ActorSeat) → i < length seats.old.items
+        → RanOn machine.now table.now.table.shared.table_id turns (slice_index_or seats.old.items i d)
+        (slice_index_or seats.new.items i d) }
 {
     run_seats(rt, table, machine, seats.as_mut_slice(), turns, gate);
 }

@@ -47,7 +47,8 @@ fn round(world: &mut SerialWorld, machine: &Machine, actors: &mut Vec<AnyActor>)
     ensures machine { world.new.board.machine ≡ machine.now }
     ensures actors { map who actors.new.items ≡ actors_of machine.now }
     ensures sound { IsSound machine.now (core_in world.new actors.new.items) }
-    ensures round { RowDone machine.now (actors_of machine.now) (core_in world.old actors.old.items) result (core_in world.new actors.new.items) }
+    ensures round { RowDone machine.now (actors_of machine.now) (core_in world.old actors.old.items) result
+        (core_in world.new actors.new.items) }
 {
     let mut moved = false;
     for k in 0..actors.len() {
@@ -60,8 +61,9 @@ fn round(world: &mut SerialWorld, machine: &Machine, actors: &mut Vec<AnyActor>)
 
 /// Makes rounds, one step of each actor in the order in which they are served, until one in which nobody did anything.
 ///
-/// `machine` is the machine of the world's board, and `actors` are all its actors, in their order. Beside the world they make
-/// a sound core. The history that is left begins with the one that was there, and is complete: nothing deadlocks.
+/// `machine` is the machine of the world's board, and `actors` are all its actors, in their order. Beside the world
+/// they make a sound core. The history that is left begins with the one that was there, and is complete: nothing
+/// deadlocks.
 pub fn drain(world: &mut SerialWorld, machine: &Machine, actors: &mut Vec<AnyActor>)
     requires machine { world.old.board.machine ≡ machine.now }
     requires actors { map who actors.old.items ≡ actors_of machine.now }
@@ -69,7 +71,8 @@ pub fn drain(world: &mut SerialWorld, machine: &Machine, actors: &mut Vec<AnyAct
     ensures machine { world.new.board.machine ≡ machine.now }
     ensures actors { map who actors.new.items ≡ actors_of machine.now }
     ensures sound { IsSound machine.now (core_in world.new actors.new.items) }
-    ensures settles { Settles machine.now (actors_of machine.now) (core_in world.old actors.old.items) (core_in world.new actors.new.items) }
+    ensures settles { Settles machine.now (actors_of machine.now) (core_in world.old actors.old.items)
+        (core_in world.new actors.new.items) }
     ensures begins { Begins world.old.board.entries world.new.board.entries }
     ensures complete { Complete machine.now world.new.board.entries }
 {
@@ -122,13 +125,15 @@ pub fn step_of(
     ensures machine { world.new.board.machine ≡ machine.now }
     ensures actors { map who actors.new.items ≡ actors_of machine.now }
     ensures sound { IsSound machine.now (core_in world.new actors.new.items) }
-    ensures step { StepDone machine.now name (core_in world.old actors.old.items) result (core_in world.new actors.new.items) }
+    ensures step { StepDone machine.now name (core_in world.old actors.old.items) result
+        (core_in world.new actors.new.items) }
 {
     let k = place_of(machine, name);
     step_at(world, machine, actors, k)
 }
 
-/// Makes one step for each name of the machine's schedule, in order, and then rounds until one in which nobody did anything.
+/// Makes one step for each name of the machine's schedule, in order, and then rounds until one in which nobody did
+/// anything.
 ///
 /// The conditions are those of [`drain`].
 pub fn run_schedule(world: &mut SerialWorld, machine: &Machine, actors: &mut Vec<AnyActor>)
@@ -155,7 +160,8 @@ fn make_steps(world: &mut SerialWorld, machine: &Machine, actors: &mut Vec<AnyAc
     ensures machine { world.new.board.machine ≡ machine.now }
     ensures actors { map who actors.new.items ≡ actors_of machine.now }
     ensures sound { IsSound machine.now (core_in world.new actors.new.items) }
-    ensures steps { core_in world.new actors.new.items ≡ steps machine.now machine.now.schedule (core_in world.old actors.old.items) }
+    ensures steps { core_in world.new actors.new.items
+        ≡ steps machine.now machine.now.schedule (core_in world.old actors.old.items) }
 {
     machine.law_rules();
     for name in machine.schedule() {

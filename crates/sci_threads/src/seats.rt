@@ -14,8 +14,8 @@ use machine_core::Board;
 use machine_desc::Machine;
 use std::alloc::Global;
 
-/// A seat for each actor of the machine of the table's board, in the order in which they are served, each at its start. The
-/// root has split no actor before.
+/// A seat for each actor of the machine of the table's board, in the order in which they are served, each at its
+/// start. The root has split no actor before.
 pub fn prepare(
     alloc: Global,
     table: &LockTable<Board>,
@@ -41,8 +41,8 @@ pub fn prepare(
     Ok(seats)
 }
 
-/// Takes each seat back into the root, which then has its actor with phase and entries, and has seen what the seat had. The
-/// actors stand behind those that were there, in the order of the seats.
+/// Takes each seat back into the root, which then has its actor with phase and entries, and has seen what the seat
+/// had. The actors stand behind those that were there, in the order of the seats.
 pub fn join_all(
     table: &LockTable<Board>,
     root: &mut TableSeat,
@@ -55,7 +55,8 @@ pub fn join_all(
     ensures root { IsRootOf table.now.table.shared.table_id root.new }
     ensures actors { actors.new.items ≡ actors.old.items ++ map (λ x. x.actor) seats.items }
     ensures parts { root_parts root.new.view.who ≡ parts_back seats.items (root_parts root.old.view.who) }
-    ensures back { (away : List Actor) → HasAllBut (names_of seats.items ++ away) root.old.view → HasAllBut away root.new.view }
+    ensures back { (away : List Actor) → HasAllBut (names_of seats.items ++ away) root.old.view
+        → HasAllBut away root.new.view }
     ensures seen { StartsWith root.new.view.seen root.old.view.seen }
     ensures told { All (λ x. StartsWith root.new.view.seen x.seat.view.seen) seats.items }
 {

@@ -10,9 +10,9 @@ use Rattle.sci_threads.specs.declared.any.AnyActor.{AnyActor}
 use Rattle.sci_threads.specs.declared.shared.ActorSeat.{ActorSeat}
 use Rattle.sci_threads.specs.Seats.{IsFirst, IsRootOf, names_of}
 
--- An open table of a board of this machine, and its root without a turn. Every actor of the machine has a seat, at its start,
--- in the order in which actors are served; the root has all others, which did nothing. The machine's canonical text, and room
--- for the actors when they are back.
+-- An open table of a board of this machine, and its root without a turn. Every actor of the machine has a seat, at
+-- its start, in the order in which actors are served; the root has all others, which did nothing. The machine's
+-- canonical text, and room for the actors when they are back.
 pub record IsPrepared (m base : MachineData) (table : TableName) (root : Pass) (seats : List ActorSeat) (actors : List AnyActor) (count room : ℕ) (text : List ℕ) : Type 0 where
   pub same : base ≡ m
   pub root_is : IsRootOf table root

@@ -18,8 +18,8 @@ use Rattle.sci_threads.specs.Shared.{IsAtEnd}
 abbrev pub turns_of : MachineData → ℕ
 turns_of m = weight_of m + 64
 
--- These parts have the actor, in its phase. It is at its end, a firmware idle with its script through or a device with its list
--- through; or it tried so many times.
+-- These parts have the actor, in its phase. It is at its end, a firmware idle with its script through or a device
+-- with its list through; or it tried so many times.
 pub record IsBack (m : MachineData) (turns : ℕ) (parts : List Part) (x : AnyActor) : Type 0 where
   pub part : Part
   pub there : find (who x) parts ≡ Some part
@@ -31,8 +31,8 @@ pub record RacedData : Type 0 where
   pub machine : MachineData
   pub root : View
 
--- The open table of a board of this machine, and its root without a turn, in which every actor is back. All other actors did
--- nothing. The actors stand in the order in which they are served.
+-- The open table of a board of this machine, and its root without a turn, in which every actor is back. All other
+-- actors did nothing. The actors stand in the order in which they are served.
 pub record AreBack (m base : MachineData) (table : TableName) (root : Pass) (actors : List AnyActor) : Type 0 where
   pub same : base ≡ m
   pub root_is : IsRootOf table root

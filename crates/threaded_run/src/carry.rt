@@ -21,13 +21,14 @@ use machine_desc::Machine;
 use sci_threads::{AnyActor, drain};
 use world::SerialWorld;
 
-/// Closes the table of a raced machine, lets rounds finish what the threads left, and writes the log to the sink. It takes no
-/// memory.
+/// Closes the table of a raced machine, lets rounds finish what the threads left, and writes the log to the sink. It
+/// takes no memory.
 ///
-/// The history that it writes is complete, and begins with all that the root of the table had seen. `WriteFault` comes only where
-/// a write failed, and then a front of the log was written.
+/// The history that it writes is complete, and begins with all that the root of the table had seen. `WriteFault`
+/// comes only where a write failed, and then a front of the log was written.
 pub fn carry_out<K: Sink>(raced: Raced, sink: &mut K) -> Result<(), WriteFault>
-    ensures ends { (history : List Entry) × Complete raced.machine history × StartsWith history raced.root.seen × All IsEntry history
+    ensures ends { (history : List Entry) × Complete raced.machine history × StartsWith history raced.root.seen
+        × All IsEntry history
         × WritesAll (K.held sink.old) (K.held sink.new) (log_text raced.machine (canonical raced.machine) history) result }
     ensures later { K.faults sink.old ≤ K.faults sink.new }
     ensures cause { OnErr result (RoseByOne (K.faults sink.old) (K.faults sink.new)) }
@@ -45,8 +46,8 @@ pub fn carry_out<K: Sink>(raced: Raced, sink: &mut K) -> Result<(), WriteFault>
     write_log(&text, &board, sink)
 }
 
-/// Closes the table of a raced machine, and lets rounds finish what the threads left: the board that is left. It takes no memory,
-/// and has no refusal.
+/// Closes the table of a raced machine, and lets rounds finish what the threads left: the board that is left. It
+/// takes no memory, and has no refusal.
 ///
 /// The board is one of that machine. Its history is complete, and begins with all that the root of the table had seen.
 pub fn at_rest(raced: Raced) -> Board

@@ -14,8 +14,8 @@ use sci_threads::{ActorSeat, AnyActor, prepare};
 use std::alloc::Global;
 use std::marker::Model;
 
-/// A machine that is ready to run on threads: a fresh table with its board, a seat for each of its actors, its canonical
-/// text, and all room.
+/// A machine that is ready to run on threads: a fresh table with its board, a seat for each of its actors, its
+/// canonical text, and all room.
 #[derive(Drop)]
 pub struct Prepared {
     pub(crate) machine: Machine,
@@ -63,8 +63,8 @@ pub fn prepare_run(alloc: Global, bytes: &[u8]) -> Result<Prepared, ReaderFault>
     }
 }
 
-/// Takes all the memory that a run of this machine needs, or answers `Memory` where room was wanting. The machine's weight is at
-/// most 1,048,576.
+/// Takes all the memory that a run of this machine needs, or answers `Memory` where room was wanting. The machine's
+/// weight is at most 1,048,576.
 pub fn prepare_machine(alloc: Global, machine: Machine) -> Result<Prepared, Memory>
     requires { weight_of machine ≤ 1048576 }
     ensures { IfOk result (λ p. p ≡ machine) }

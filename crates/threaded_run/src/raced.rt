@@ -7,11 +7,11 @@ use machine_desc::Machine;
 use sci_threads::AnyActor;
 use std::marker::Model;
 
-/// A machine whose threads have run: the open table, its root with every actor back, the actors, the machine's canonical
-/// text, and all room.
+/// A machine whose threads have run: the open table, its root with every actor back, the actors, the machine's
+/// canonical text, and all room.
 ///
-/// Contracts see the machine and what the root knows. There each actor is at its end, a firmware idle with its script through
-/// or a device with its list through, or it tried at least 64 times more than the machine's weight.
+/// Contracts see the machine and what the root knows. There each actor is at its end, a firmware idle with its script
+/// through or a device with its list through, or it tried at least 64 times more than the machine's weight.
 #[derive(Drop)]
 pub struct Raced {
     pub(crate) machine: Machine,

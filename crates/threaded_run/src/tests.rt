@@ -41,8 +41,8 @@ impl ThirdPass {
     }
 }
 
-/// The first firmware made its two steps on its thread, before any other actor made one: so a race that takes turns and makes
-/// no step is told.
+/// The first firmware made its two steps on its thread, before any other actor made one: so a race that takes turns
+/// and makes no step is told.
 #[test]
 fn race_steps(rt: HostRuntime) -> Result<(), Fail> {
     let Ok(prepared) = prepare_run(rt.alloc(), TWO.as_bytes()) else {

@@ -5,9 +5,9 @@ use Rattle.acpi_regs.specs.declared.entry.Entry.{Entry}
 use Rattle.acpi_regs.specs.declared.event.Event.{Event}
 use Rattle.lock_table.specs.declared.words.Attempt.{Attempt}
 
--- An attempt at the lock with its answer. A release, and whether it found Pending. A pulse of an event, and whether its pin
--- was clear. A turn: whether it collected the pins, the journal that it found, the journal that it left, and the events that
--- it collected. A turn that was out.
+-- An attempt at the lock with its answer. A release, and whether it found Pending. A pulse of an event, and whether
+-- its pin was clear. A turn: whether it collected the pins, the journal that it found, the journal that it left, and
+-- the events that it collected. A turn that was out.
 pub data Call : Type 0 where
   Attempted : Attempt → Call
   Released : Bool → Call

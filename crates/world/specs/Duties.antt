@@ -57,10 +57,12 @@ HasNoLatch (d ∷ deeds) = (is_latch d ≡ false) × HasNoLatch deeds
 -- of the lock's entries at most the one that is named, and that one once
 abbrev pub IsWithin : Option Deed → List Deed → Type 0
 IsWithin lock [] = Unit {0}
-IsWithin lock (d ∷ deeds) = (is_lock_deed d ≡ true → lock ≡ Some d) × IsWithin (if is_lock_deed d then None else lock) deeds
+IsWithin lock (d ∷ deeds) = (is_lock_deed d ≡ true → lock ≡ Some d)
+    × IsWithin (if is_lock_deed d then None else lock) deeds
 
--- A turn adds entries of its actor alone: first a latch of each event that was collected, in their order, and then what is no
--- latch, and of the lock's entries at most the one that is named. It answers Nothing exactly where it added nothing.
+-- A turn adds entries of its actor alone: first a latch of each event that was collected, in their order, and then
+-- what is no latch, and of the lock's entries at most the one that is named. It answers Nothing exactly where it
+-- added nothing.
 pub record IsTurn (a : Actor) (lock : Option Deed) (before after : List Entry) (events : List Event) (answer : Acted) : Type 0 where
   pub deeds : List Deed
   pub adds : after ≡ before ++ (map (latch a) events ++ map (entry a) deeds)
@@ -70,8 +72,12 @@ pub record IsTurn (a : Actor) (lock : Option Deed) (before after : List Entry) (
 
 -- ---- what a turn tells
 
--- Given what the calls of a world make, and what a duty does: a turn that is done collected only where that was asked, and
--- did what the duty does. Where the turn was out, the duty is unchanged.
-abbrev pub TurnSays : {W D : Type 0} → (W → Actor → Call → W → Type 0) → (D → D → List Entry → List Entry → List Event → Acted → Type 0) → Actor → Bool → W → D → TurnOutcome → W → D → Type 0
-TurnSays makes does a collect w d (turn.Done r) w' d' = (before after : List Entry) × (events : List Event) × (collect ≡ false → events ≡ []) × makes w a (Turned collect before after events) w' × does d d' before after events r
+-- Given what the calls of a world make, and what a duty does: a turn that is done collected only where that was
+-- asked, and did what the duty does. Where the turn was out, the duty is unchanged.
+abbrev pub TurnSays : {W D : Type 0} → (W → Actor → Call → W → Type 0)
+    → (D → D → List Entry → List Entry → List Event → Acted → Type 0) → Actor → Bool → W → D → TurnOutcome → W → D
+    → Type 0
+TurnSays makes does a collect w d (turn.Done r) w' d' = (before after : List Entry) × (events : List Event)
+    × (collect ≡ false → events ≡ []) × makes w a (Turned collect before after events) w'
+    × does d d' before after events r
 TurnSays makes does a collect w d turn.Out w' d' = makes w a Missed w' × (d' ≡ d)

@@ -49,8 +49,11 @@ left false pins = pins
 abbrev pub SerialMakes : Serial → Actor → Call → Serial → Type 0
 SerialMakes w a (Attempted r) w' = (r ≡ attempt_of w.words.facs) × Has w' w.board (acquired w.words.facs) (pins_of w)
 SerialMakes w a (Released b) w' = (b ≡ is_pending w.words.facs) × Has w' w.board (released w.words.facs) (pins_of w)
-SerialMakes w a (Pulsed_at n clear) w' = (clear ≡ not (pins_of w n)) × Has w' w.board w.words.facs (with_pin n (pins_of w))
-SerialMakes w a (Turned collect before after events) w' = (before ≡ w.board.entries) × (events ≡ events_of (collected collect (pins_of w))) × Has w' (record w.board { entries = after }) w.words.facs (left collect (pins_of w))
+SerialMakes w a (Pulsed_at n clear) w' = (clear ≡ not (pins_of w n))
+    × Has w' w.board w.words.facs (with_pin n (pins_of w))
+SerialMakes w a (Turned collect before after events) w' = (before ≡ w.board.entries)
+    × (events ≡ events_of (collected collect (pins_of w)))
+    × Has w' (record w.board { entries = after }) w.words.facs (left collect (pins_of w))
 SerialMakes w a Missed w' = ⊥
 
 -- a turn may collect where a latch of each set pin is allowed

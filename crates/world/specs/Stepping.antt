@@ -1,5 +1,5 @@
--- What one step of an actor comes to, over any world: it makes one call, and its outcome and its new phase are what that
--- call's answer says.
+-- What one step of an actor comes to, over any world: it makes one call, and its outcome and its new phase are what
+-- that call's answer says.
 use Rattle.std.specs.Prelude.{ℕ, ◌≡◌, ◌&&◌, Bool, true, false, List, ◌++◌, reverse, Option, Some, None, is_none, if◌then◌else◌}
 use Rattle.acpi_regs.specs.declared.actor.Actor.{Actor}
 use Rattle.acpi_regs.specs.declared.actor.Actor.TheVariants as actor
@@ -75,7 +75,8 @@ ScriptAnswers m a p (Turned collect before after events) o q =
 ScriptAnswers m a p Missed o q = (o ≡ outcome.Out) × (q ≡ p)
 
 -- one step of a worker or a firmware
-abbrev pub ScriptSteps : {W : Type 0} → (W → Actor → Call → W → Type 0) → MachineData → Actor → W → LockPhase → StepOutcome → W → LockPhase → Type 0
+abbrev pub ScriptSteps : {W : Type 0} → (W → Actor → Call → W → Type 0) → MachineData → Actor → W → LockPhase
+    → StepOutcome → W → LockPhase → Type 0
 ScriptSteps makes m a w p o w' q = (call : Call) × makes w a call w' × ScriptAnswers m a p call o q
 
 -- the turn of a worker or a firmware adds the one entry of its phase, and tells which, and whether its script has ended
@@ -93,11 +94,13 @@ did_outcome acted.Nothing = outcome.NotReady
 
 -- a turn, which collects the pins or not, and adds these entries for the past and the events that it finds
 abbrev pub TurnAnswers : Bool → (List Entry → List Event → List Entry) → Call → StepOutcome → Type 0
-TurnAnswers collects adds (Turned collect before after events) o = (collect ≡ collects) × (after ≡ before ++ adds (reverse before) events) × (o ≡ did_outcome (did (adds (reverse before) events)))
+TurnAnswers collects adds (Turned collect before after events) o = (collect ≡ collects)
+    × (after ≡ before ++ adds (reverse before) events) × (o ≡ did_outcome (did (adds (reverse before) events)))
 TurnAnswers collects adds Missed o = o ≡ outcome.Out
 TurnAnswers collects adds _ o = ⊥
 
-abbrev pub TurnSteps : {W : Type 0} → (W → Actor → Call → W → Type 0) → Bool → (List Entry → List Event → List Entry) → Actor → W → StepOutcome → W → Type 0
+abbrev pub TurnSteps : {W : Type 0} → (W → Actor → Call → W → Type 0) → Bool → (List Entry → List Event → List Entry)
+    → Actor → W → StepOutcome → W → Type 0
 TurnSteps makes collects adds a w o w' = (call : Call) × makes w a call w' × TurnAnswers collects adds call o
 
 -- ---- what a step makes of the core

@@ -5,9 +5,9 @@ use machine_core::Board;
 
 /// What an actor does with the board in one turn.
 ///
-/// Its rules are those of every turn: it adds entries of its actor alone, first a latch of each event that the turn has
-/// collected, in their order, and no latch after them; of the lock's entries it adds at most the one that it names, and that
-/// one once.
+/// Its rules are those of every turn: it adds entries of its actor alone, first a latch of each event that the turn
+/// has collected, in their order, and no latch after them; of the lock's entries it adds at most the one that it
+/// names, and that one once.
 pub trait Duty {
     ghost use Rattle.std.specs.Prelude.{◌≡◌, List, [], Option, false};
     ghost use Rattle.acpi_regs.specs.declared.actor.Actor.{Actor};
@@ -34,12 +34,15 @@ pub trait Duty {
     fn actor(&self) -> Actor
         ensures { result ≡ actor_of self.now };
 
-    /// Adds what there is to add, and answers whether that was anything. `bits` are the events that the turn has collected:
-    /// none unless the actor is int or poll, and each has fewer latches in the journal than pulses in the device lists.
+    /// Adds what there is to add, and answers whether that was anything. `bits` are the events that the turn has
+    /// collected: none unless the actor is int or poll, and each has fewer latches in the journal than pulses in the
+    /// device lists.
     fn act(&mut self, board: &mut Board, bits: Bits) -> Acted
         requires alone { is_host (actor_of self.old) ≡ false → events_of (pinned bits) ≡ [] }
         requires latchable { AreLatchable board.old.machine board.old.entries (pinned bits) }
         ensures machine { board.new.machine ≡ board.old.machine }
-        ensures does { does board.old.machine self.old self.new board.old.entries board.new.entries (events_of (pinned bits)) result }
-        ensures rules { IsTurn (actor_of self.old) (lock self.old) board.old.entries board.new.entries (events_of (pinned bits)) result };
+        ensures does { does board.old.machine self.old self.new board.old.entries board.new.entries
+            (events_of (pinned bits)) result }
+        ensures rules { IsTurn (actor_of self.old) (lock self.old) board.old.entries board.new.entries
+            (events_of (pinned bits)) result };
 }

@@ -1,5 +1,5 @@
-//! Facts for the proofs of the crates above, which cost nothing to call: the step of workers and firmware over the world of
-//! one thread, what `==` comes to, and the places of events.
+//! Facts for the proofs of the crates above, which cost nothing to call: the step of workers and firmware over the
+//! world of one thread, what `==` comes to, and the places of events.
 ghost use Rattle.acpi_regs.specs.Comparisons.{IsExact};
 ghost use Rattle.lock_table.specs.Bits.{IsEvent};
 ghost use Rattle.world.specs.Giving.{ScriptGives, ScriptStays};
@@ -10,8 +10,8 @@ ghost use Rattle.world.specs.contracts.turn.TurnOutcomePartialEq.TheImpl as turn
 use crate::{Acted, StepOutcome, TurnOutcome};
 use acpi_regs::Event;
 
-/// Over the world of one thread a step of a worker or a firmware is exactly what the definitions give its actor, and a step
-/// that does nothing leaves all as it is.
+/// Over the world of one thread a step of a worker or a firmware is exactly what the definitions give its actor, and
+/// a step that does nothing leaves all as it is.
 pub fn law_script()
     ensures gives { ScriptGives }
     ensures stays { ScriptStays }

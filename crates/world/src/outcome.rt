@@ -8,7 +8,8 @@ use lock_table::Attempt;
 /// What one step of an actor came to.
 #[derive(Clone, Copy, Debug, PartialEq, Eq)]
 pub enum StepOutcome {
-    /// Its call was carried out: it made entries, exchanged or released the word, or pulsed a pin, which may have been set already.
+    /// Its call was carried out: it made entries, exchanged or released the word, or pulsed a pin, which may have
+    /// been set already.
     Stepped,
     /// It looked at the board, and there was nothing for it to do.
     NotReady,

@@ -83,7 +83,8 @@ fn at_act(board: &Board, actor: Actor, act: Act) -> Option<Deed>
     }
 }
 
-/// A request is begun; while it is open and asks for the host's next move, a firmware makes that; at the end it is taken.
+/// A request is begun; while it is open and asks for the host's next move, a firmware makes that; at the end it is
+/// taken.
 fn at_request(board: &Board, actor: Actor, request: Request) -> Option<Deed>
     ensures { result ≡ steps.at_act board.now.machine (reverse board.now.entries) actor (Act.Ask request) }
 {
@@ -180,8 +181,8 @@ fn moved_by(made: Option<Deed>, phase: LockPhase) -> LockPhase
     }
 }
 
-/// One step of a worker or a firmware: one attempt at the lock, one release of it, or one turn, in which it adds the one
-/// entry of its phase where the board allows it.
+/// One step of a worker or a firmware: one attempt at the lock, one release of it, or one turn, in which it adds the
+/// one entry of its phase where the board allows it.
 pub fn script_step<W: World>(actor: Actor, phase: &mut LockPhase, world: &mut W) -> StepOutcome
     requires runs { is_host actor ≡ false }
     requires may { W.may world.old actor (lock_want phase.old) }

@@ -8,8 +8,8 @@ use acpi_regs::{Actor, Deed, LockPhase};
 use lock_table::Bits;
 use machine_core::Board;
 
-/// The turn of a worker or a firmware: it adds the one entry of its phase, where the board allows it. Afterwards it tells
-/// which, and whether its script had ended.
+/// The turn of a worker or a firmware: it adds the one entry of its phase, where the board allows it. Afterwards it
+/// tells which, and whether its script had ended.
 #[derive(Drop)]
 pub struct ScriptTurn {
     pub actor: Actor,
@@ -43,7 +43,8 @@ impl Duty for ScriptTurn {
 
     ghost lock = { λ d. lock_deed d.phase };
 
-    ghost does = { λ m d d' before after events answer. ScriptDone m d.actor d.phase d'.made d'.ended before after answer };
+    ghost does = { λ m d d' before after events answer. ScriptDone m d.actor d.phase d'.made d'.ended before after
+        answer };
 
     fn actor(&self) -> Actor {
         self.actor

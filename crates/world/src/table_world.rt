@@ -18,8 +18,8 @@ use machine_core::Board;
 
 /// A seat of a table, as its actor reaches words and board. The seat has no turn out between two calls.
 ///
-/// What a call makes of it is what the seat knows behind it (`specs/Shared.antt`); others may do anything beside. A turn is
-/// out where another seat has it.
+/// What a call makes of it is what the seat knows behind it (`specs/Shared.antt`); others may do anything beside. A
+/// turn is out where another seat has it.
 #[derive(Drop)]
 pub struct TableWorld<'a> {
     table: &'a LockTable<Board>,
@@ -43,9 +43,12 @@ impl<'a> World for TableWorld<'a> {
 
     ghost machine = { λ w. w.table.now.table.shared.key.machine };
 
-    ghost may = { λ w a want. (w.seat.now.table ≡ w.table.now.table.shared.table_id) × SeatMay w.table.now.table.shared.key.machine.devices w.seat.now.view a want };
+    ghost may = { λ w a want. (w.seat.now.table ≡ w.table.now.table.shared.table_id)
+        × SeatMay w.table.now.table.shared.key.machine.devices w.seat.now.view a want };
 
-    ghost makes = { λ w a call w'. (w'.table.now ≡ w.table.now) × (w'.seat.ghost_name ≡ w.seat.ghost_name) × SameSeat w.seat.now w'.seat.now × SeatMakes w.table.now.table.shared.key.machine w.seat.now.view call w'.seat.now.view };
+    ghost makes = { λ w a call w'. (w'.table.now ≡ w.table.now) × (w'.seat.ghost_name ≡ w.seat.ghost_name)
+        × SameSeat w.seat.now w'.seat.now
+        × SeatMakes w.table.now.table.shared.key.machine w.seat.now.view call w'.seat.now.view };
 
     fn attempt(&mut self, actor: Actor) -> Attempt {
         let _ = actor;
@@ -114,7 +117,8 @@ fn act_in<D: Duty>(
     requires may { ForOne (MayAct (D.actor_of duty.old) collect (D.lock duty.old)) seat.old.view.who }
     ensures same { SameSeat seat.old seat.new }
     ensures legal { Legal table.now.table.shared.key.machine seat.old.view.seen }
-    ensures acts { Acts (D.does table.now.table.shared.key.machine) collect seat.old.view duty.old result seat.new.view duty.new }
+    ensures acts { Acts (D.does table.now.table.shared.key.machine) collect seat.old.view duty.old result
+        seat.new.view duty.new }
 {
     let mut turn = turn;
     let found = turn.board();

@@ -56,7 +56,8 @@ pub fn back(table: &LockTable<Notes>, root: &mut TableSeat, seat: TableSeat, act
 pub fn taken<R: Abort>(rt: &R, table: &LockTable<Notes>, seat: &mut TableSeat) -> Turn<Notes>
     requires { IsHere table.now.table.shared.table_id seat.old }
     ensures base { result.board.list ≡ table.now.table.shared.key.list }
-    ensures inside { (a : Actor) (k : SeatPhase) → Rests table.now.table.shared.table_id a k seat.old → IsInside table.now.table.shared.table_id a k result.board.entries.items seat.new }
+    ensures inside { (a : Actor) (k : SeatPhase) → Rests table.now.table.shared.table_id a k seat.old
+        → IsInside table.now.table.shared.table_id a k result.board.entries.items seat.new }
 {
     match table.enter(seat) {
         Entered::Turn(turn) => turn,
@@ -67,8 +68,11 @@ pub fn taken<R: Abort>(rt: &R, table: &LockTable<Notes>, seat: &mut TableSeat) -
 /// Gives the turn back with nothing added.
 pub fn passed(table: &LockTable<Notes>, seat: &mut TableSeat, turn: Turn<Notes>)
     requires base { turn.board.list ≡ table.now.table.shared.key.list }
-    requires inside { (a : Actor) × (k : SeatPhase) × IsInside table.now.table.shared.table_id a k turn.board.entries.items seat.old × MayPass k }
-    ensures { (a : Actor) (k : SeatPhase) → IsInside table.now.table.shared.table_id a k turn.board.entries.items seat.old → Rests table.now.table.shared.table_id a (let_go k) seat.new }
+    requires inside { (a : Actor) × (k : SeatPhase)
+        × IsInside table.now.table.shared.table_id a k turn.board.entries.items seat.old × MayPass k }
+    ensures { (a : Actor) (k : SeatPhase)
+        → IsInside table.now.table.shared.table_id a k turn.board.entries.items seat.old
+        → Rests table.now.table.shared.table_id a (let_go k) seat.new }
 {
     table.leave(seat, turn);
 }
@@ -82,7 +86,8 @@ pub fn noted<R: Abort>(
     deed: Deed,
 )
     requires { (k : SeatPhase) × Rests table.now.table.shared.table_id actor k seat.old × MayNote k deed }
-    ensures { (k : SeatPhase) → Rests table.now.table.shared.table_id actor k seat.old → Rests table.now.table.shared.table_id actor (let_go (after_deed deed k)) seat.new }
+    ensures { (k : SeatPhase) → Rests table.now.table.shared.table_id actor k seat.old
+        → Rests table.now.table.shared.table_id actor (let_go (after_deed deed k)) seat.new }
 {
     let entry = Entry { actor, deed };
     let mut turn = taken(rt, table, seat);
@@ -94,7 +99,8 @@ pub fn noted<R: Abort>(
 /// Whether the turn is out. Where it is not, it is taken and given back.
 pub fn finds_out(table: &LockTable<Notes>, seat: &mut TableSeat) -> bool
     requires { (a : Actor) × (k : SeatPhase) × Rests table.now.table.shared.table_id a k seat.old × MayPass k }
-    ensures { (a : Actor) (k : SeatPhase) → Rests table.now.table.shared.table_id a k seat.old → MayPass k → Rests table.now.table.shared.table_id a k seat.new }
+    ensures { (a : Actor) (k : SeatPhase) → Rests table.now.table.shared.table_id a k seat.old → MayPass k
+        → Rests table.now.table.shared.table_id a k seat.new }
 {
     match table.enter(seat) {
         Entered::Turn(turn) => {
@@ -108,7 +114,8 @@ pub fn finds_out(table: &LockTable<Notes>, seat: &mut TableSeat) -> bool
 /// An attempt that takes the lock.
 pub fn wins<R: Abort>(rt: &R, table: &LockTable<Notes>, seat: &mut TableSeat)
     requires { (a : Actor) × (l : _) × Rests table.now.table.shared.table_id a (kept.Lock (lock.Seeking l)) seat.old }
-    ensures { (a : Actor) (k : SeatPhase) → Rests table.now.table.shared.table_id a k seat.old → Rests table.now.table.shared.table_id a (kept.Lock lock.Won) seat.new }
+    ensures { (a : Actor) (k : SeatPhase) → Rests table.now.table.shared.table_id a k seat.old
+        → Rests table.now.table.shared.table_id a (kept.Lock lock.Won) seat.new }
 {
     let Attempt::Won = table.attempt(seat) else {
         panic!(rt; "the word was free");
@@ -118,7 +125,8 @@ pub fn wins<R: Abort>(rt: &R, table: &LockTable<Notes>, seat: &mut TableSeat)
 /// An attempt that finds the lock owned, and this word.
 pub fn marks<R: Abort>(rt: &R, table: &LockTable<Notes>, seat: &mut TableSeat, word: u32)
     requires { (a : Actor) × (l : _) × Rests table.now.table.shared.table_id a (kept.Lock (lock.Seeking l)) seat.old }
-    ensures { (a : Actor) (k : SeatPhase) → Rests table.now.table.shared.table_id a k seat.old → Rests table.now.table.shared.table_id a (kept.Lock lock.Marked) seat.new }
+    ensures { (a : Actor) (k : SeatPhase) → Rests table.now.table.shared.table_id a k seat.old
+        → Rests table.now.table.shared.table_id a (kept.Lock lock.Marked) seat.new }
 {
     let Attempt::Marked { found } = table.attempt(seat) else {
         panic!(rt; "the word was owned");
@@ -129,7 +137,8 @@ pub fn marks<R: Abort>(rt: &R, table: &LockTable<Notes>, seat: &mut TableSeat, w
 /// Acquires the lock, which is free.
 pub fn owns<R: Abort + Wait>(rt: &R, table: &LockTable<Notes>, seat: &mut TableSeat)
     requires { (a : Actor) × (l : _) × Rests table.now.table.shared.table_id a (kept.Lock (lock.Seeking l)) seat.old }
-    ensures { (a : Actor) (k : SeatPhase) → Rests table.now.table.shared.table_id a k seat.old → Rests table.now.table.shared.table_id a (kept.Lock lock.Won) seat.new }
+    ensures { (a : Actor) (k : SeatPhase) → Rests table.now.table.shared.table_id a k seat.old
+        → Rests table.now.table.shared.table_id a (kept.Lock lock.Won) seat.new }
 {
     let seeking = Seeking::of(seat);
     let Acquired::Owned(_) = acquire(rt, table, seat, seeking) else {

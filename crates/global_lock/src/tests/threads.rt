@@ -52,7 +52,8 @@ fn started(
     number: u32,
 ) -> bool
     requires base { turn.board.list ≡ table.now.table.shared.key.list }
-    requires inside { IsInside table.now.table.shared.table_id actor (kept.Lock lock.Idle) turn.board.entries.items seat.old }
+    requires inside { IsInside table.now.table.shared.table_id actor (kept.Lock lock.Idle) turn.board.entries.items
+        seat.old }
     ensures { IsIdle table.now.table.shared.table_id actor seat.new }
 {
     let mut turn = turn;
@@ -103,8 +104,11 @@ fn race<R: Threads + Sync, G: Gate>(
     gate: &G,
 )
     requires { All (λ x. IsIdle table.now.table.shared.table_id x.actor x.seat) writers.old }
-    ensures actors { (i : ℕ) (d : Writer) → i < length writers.old → (slice_index_or writers.new i d).actor ≡ (slice_index_or writers.old i d).actor }
-    ensures idle { (i : ℕ) (d : Writer) → i < length writers.old → IsIdle table.now.table.shared.table_id (slice_index_or writers.new i d).actor (slice_index_or writers.new i d).seat }
+    ensures actors { (i : ℕ) (d : Writer) → i < length writers.old
+        → (slice_index_or writers.new i d).actor ≡ (slice_index_or writers.old i d).actor }
+    ensures idle { (i : ℕ) (d : Writer) → i < length writers.old
+        → IsIdle table.now.table.shared.table_id (slice_index_or writers.new i d).actor
+        (slice_index_or writers.new i d).seat }
 {
     thread::for_each_mut(
         rt,
@@ -112,7 +116,8 @@ fn race<R: Threads + Sync, G: Gate>(
         4,
         &|_, at: &mut Writer|
             requires { IsIdle table.now.table.shared.table_id at.old.actor at.old.seat }
-            ensures { (at.new.actor ≡ at.old.actor) × IsIdle table.entry.now.table.shared.table_id at.new.actor at.new.seat }
+            ensures { (at.new.actor ≡ at.old.actor)
+                × IsIdle table.entry.now.table.shared.table_id at.new.actor at.new.seat }
         { run_one(table, at, gate) },
     );
 }

@@ -50,7 +50,8 @@ impl Board {
         }
     }
 
-    /// The first event in order that has status and is enabled (ACPI 6.5, section 5.6.4); `None` exactly where there is none.
+    /// The first event in order that has status and is enabled (ACPI 6.5, section 5.6.4); `None` exactly where there
+    /// is none.
     pub fn pending(&self) -> Option<Event>
         ensures { IsFirstPending self.now.machine (reverse self.now.entries) result }
     {
@@ -72,8 +73,8 @@ impl Board {
         self.events.chip.count(event)
     }
 
-    /// Whether the event is level and its last sixteen runs ended under its asserted line, with no drop and no assert among
-    /// them or after.
+    /// Whether the event is level and its last sixteen runs ended under its asserted line, with no drop and no assert
+    /// among them or after.
     pub fn parked(&self, event: Event) -> bool
         ensures { result ≡ events.parked self.now.machine (reverse self.now.entries) event }
     {
@@ -129,8 +130,8 @@ impl Board {
         self.wire.next_effect()
     }
 
-    /// What the take of the open transaction carries. The outer `None` exactly where none is open or not all its moves are
-    /// made.
+    /// What the take of the open transaction carries. The outer `None` exactly where none is open or not all its
+    /// moves are made.
     pub fn taking(&self) -> Option<Option<u8>>
         ensures { result ≡ values.taking self.now.machine (reverse self.now.entries) }
     {
@@ -204,7 +205,8 @@ impl Board {
     }
 
     fn all_started(&self) -> bool
-        ensures { IsTrue result ↔ (jobs.starts (reverse self.now.entries) ≡ length (jobs.jobs self.now.machine (reverse self.now.entries))) }
+        ensures { IsTrue result ↔ (jobs.starts (reverse self.now.entries)
+            ≡ length (jobs.jobs self.now.machine (reverse self.now.entries))) }
     {
         self.jobs.starts as usize == self.jobs.made.len()
     }

@@ -106,7 +106,8 @@ impl Board {
     }
 
     fn read_row(&self, actor: Actor, cell: Cell, byte: u8) -> Option<LogRule>
-        ensures { result ≡ legal.first_failing (legal.row self.now.machine (reverse self.now.entries) actor (Deed.Read cell byte)) }
+        ensures { result ≡ legal.first_failing
+            (legal.row self.now.machine (reverse self.now.entries) actor (Deed.Read cell byte)) }
     {
         self.machine.law_rules();
         if !self.is_next(actor, Deed::Read(cell, byte)) {
@@ -116,7 +117,8 @@ impl Board {
     }
 
     fn step_row(&self, actor: Actor, made: HostMove) -> Option<LogRule>
-        ensures { result ≡ legal.first_failing (legal.row self.now.machine (reverse self.now.entries) actor (Deed.Step made)) }
+        ensures { result ≡ legal.first_failing
+            (legal.row self.now.machine (reverse self.now.entries) actor (Deed.Step made)) }
     {
         test(
             LogRule::Begin,
@@ -160,7 +162,8 @@ impl Board {
     }
 
     fn take_row(&self, actor: Actor, byte: Option<u8>) -> Option<LogRule>
-        ensures { result ≡ legal.first_failing (legal.row self.now.machine (reverse self.now.entries) actor (Deed.Take byte)) }
+        ensures { result ≡ legal.first_failing
+            (legal.row self.now.machine (reverse self.now.entries) actor (Deed.Take byte)) }
     {
         test(
             LogRule::Begin,

@@ -68,7 +68,8 @@ impl Board {
     }
 
     fn is_loud(&self, effect: Effect) -> bool
-        ensures { result ≡ events.is_loud self.now.machine (open_of (reverse self.now.entries)) (codes (reverse self.now.entries)) effect }
+        ensures { result ≡ events.is_loud self.now.machine (open_of (reverse self.now.entries))
+            (codes (reverse self.now.entries)) effect }
     {
         match effect {
             Effect::Calm => false,
