@@ -737,3 +737,58 @@ def read(path):
     """The log of a file. BadLog where its first line has no machine, OSError where it cannot be read."""
     with open(path, "rb") as file:
         return Log(file.read().decode("utf-8", "replace"))
+
+# ---- what a reader is shown of a state
+
+
+def facts(state, piece):
+    """The facts of a piece of state, as pairs of a name and a value. A value that is off is None."""
+    kind = piece[0]
+    if kind == "event":
+        event, slot = piece[1], state.slot(piece[1])
+        return [(event + " status", slot.status or None), (event + " line", slot.line or None), (event + " held", slot.held or None),
+                (event + " parked", slot.parked or None), (event + " enabled", slot.enabled or None), (event + " refs", slot.refs or None)]
+    if kind == "lock":
+        return [("lock owner", state.owner), ("lock word", state.word() or None), ("lock os", stands(state, "os")),
+                ("lock firmware", stands(state, "firmware")), ("lock wake os", state.wake["os"] or None),
+                ("lock wake firmware", state.wake["firmware"] or None)]
+    if kind == "ec":
+        flags = state.registers()
+        asks = state.open and "%s %s" % (state.open.by, " ".join(state.open.asks))
+        move = state.next_move()
+        return [("ec request", asks), ("ec next", " ".join(move) if move else "take" if asks else None)] + [
+            ("ec " + name, name in flags or None) for name in ("OBF", "IBF", "CMD", "BURST", "SCI_EVT")] + [
+            ("ec input", state.input), ("ec output", state.output), ("ec codes", " ".join(state.codes) or None)]
+    if kind == "job":
+        return [("job " + piece[1], job_text(state, state.running.get(piece[1])))]
+    if kind == "queue":
+        return [("jobs waiting", len(state.jobs) - state.starts or None)]
+    if kind == "next":
+        act = state.next.get(piece[1])
+        return [("next " + piece[1], " ".join(act.words) if act else None)]
+    return [("cell " + piece[1], state.cell(piece[1]))]
+
+
+def stands(state, which):
+    """Where the actor of a side stands that competes for the lock."""
+    actor = state.seeker[which]
+    if actor is None:
+        return None
+    doing = "leaves" if actor in state.disowned else "owns" if actor in state.owned else "waits" if actor in state.busy else "tries"
+    return actor + " " + doing
+
+
+def job_text(state, number):
+    if number is None:
+        return None
+    name = state.jobs[number].name if number < len(state.jobs) else ""
+    return ("%d %s" % (number, state.handlers.get(name, name))).strip()
+
+
+def pieces(state):
+    """The pieces of state that a machine has at its start; cells come with the first entry that touches them."""
+    found = [("lock",)] + [("event", event) for event in sorted(state.slots, key=rank)]
+    found += [("ec",)] * (state.own is not None)
+    workers = [actor for actor in state.actors if actor[0] == "w"]
+    found += [("job", actor) for actor in workers] + [("queue",)]
+    return found + [("next", actor) for actor in state.actors if actor[0] in "wf"]
