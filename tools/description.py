@@ -397,6 +397,8 @@ def no_constant(text):
 
 def parsed(data):
     """The value of bytes or a text, as the program's reader takes it; Refused where that is none."""
+    if len(data) > MOST_BYTES:
+        raise Refused("TooLarge", None, "at most %d bytes" % MOST_BYTES)
     try:
         text = data.decode("utf-8") if isinstance(data, bytes) else data
         value = json.loads(text, parse_int=whole, parse_float=real, parse_constant=no_constant)

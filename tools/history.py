@@ -21,7 +21,6 @@ WORDS = 200000  # lines whose words are kept
 EVENT = r"(?:tmr|gbl|pwr|slp|rtc|g[0-9A-F]{2})"
 ACTOR = r"(?:int|poll|ec|w[0-3]|[df][0-7])"
 BYTE, CELL, COUNT = r"[0-9A-F]{2}", r"[0-9A-F]{2}:[0-9A-F]{4}", r"(?:0|[1-9][0-9]{0,9})"
-CODE = r"(?!00)[0-9A-F]{2}"
 FORMS = {
     "seek": "", "busy": "", "woken": "", "own": "", "disown": "", "leave": "[01]", "read": CELL + " " + BYTE, "write": CELL + " " + BYTE,
     "begin": "(?:rd %s|wr %s %s|be|bd|qr)" % (BYTE, BYTE, BYTE), "step": "(?:sc|data|get) " + BYTE, "ctl": "(?:taken|out %s|put|calm)" % BYTE,
