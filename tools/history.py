@@ -247,6 +247,8 @@ class State:
         self.wake = {"os": False, "firmware": False}
         self.leaves, self.busies = {"os": 0, "firmware": 0}, {"os": 0, "firmware": 0}
         self.first_leaver = {"os": None, "firmware": None}
+        # Pending: a busy marks the turn of the other side that owns the word, or, where that has left with a signal already, the one before.
+        self.marked, self.unsaid = {"os": False, "firmware": False}, {"os": 0, "firmware": 0}
         # jobs
         self.jobs, self.starts, self.running = [], 0, {}
         # the controller
@@ -299,8 +301,14 @@ class State:
         return "%02X:00%s" % (self.space if self.space is not None else 0, address)
 
     def word(self):
-        """The two low bits of the lock's word, as the entries show them: 2 while it is owned, 3 where one is busy on it too."""
-        return 0 if self.owner is None else 3 if any(side(it) != side(self.owner) for it in self.busy) else 2
+        """The two low bits of the lock's word, as the entries show them: 2 while it is owned, and 3 once it is marked as pending.
+
+        Attempts and releases write no line. A busy entry may stand before the `own` of the turn that it marked: then that turn has begun. And it may
+        stand after the `leave` of it: then it marks no later turn.
+        """
+        if self.owner is not None:
+            return 3 if self.marked[side(self.owner)] else 2
+        return 3 if any(self.marked[which] and self.seeker[which] not in self.disowned for which in ("os", "firmware")) else 0
 
     def registers(self):
         """The flags of EC_SC that are set, by their names."""
@@ -451,6 +459,11 @@ class State:
         self.busy.add(actor)
         if side(actor):
             self.busies[side(actor)] += 1
+            marked = other(side(actor))
+            if self.unsaid[marked]:
+                self.unsaid[marked] -= 1
+            else:
+                self.marked[marked] = True
         return [("lock",)]
 
     def on_woken(self, actor):
@@ -473,6 +486,8 @@ class State:
         which, touched = side(actor), [("lock",)]
         if which:
             self.seeker[which] = None
+            self.unsaid[which] += signal == "1" and not self.marked[which]
+            self.marked[which] = False
         if signal == "1" and which:
             self.leaves[which] += 1
             self.first_leaver[which] = self.first_leaver[which] or actor
