@@ -43,7 +43,7 @@ IsMade task.Check m history = ⊥
 abbrev pub Makes : Task → List ℕ → (List ℕ → Type 0) → Type 0
 Makes t bytes does =
     (m : MachineData) × (history : List Entry) × Ran bytes m history × IsMade t m history
-        × IsCompleteLog (text m history) m history × does (text m history)
+    × IsCompleteLog (text m history) m history × does (text m history)
 
 -- the status of a fault of the reader
 abbrev pub status_of : ReaderFault → Status
@@ -114,7 +114,7 @@ Answers words source_kept sink_kept left left' held held' status.Usage = ((c : C
     × source_kept × sink_kept
 Answers words source_kept sink_kept left left' held held' status.Memory =
     ((are_plain (map string_bytes words) ≡ true) × source_kept × sink_kept)
-        ⊎ Obeys words source_kept sink_kept left left' held held' status.Memory
+    ⊎ Obeys words source_kept sink_kept left left' held held' status.Memory
 Answers words source_kept sink_kept left left' held held' s = Obeys words source_kept sink_kept left left' held held' s
 
 -- the status is Ok, or Memory

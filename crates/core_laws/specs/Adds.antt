@@ -79,4 +79,4 @@ pub record IsAddedTo (m : MachineData) (c : Cell) (f : ℕ) : Type 0 where
 abbrev pub SumsAdds : MachineData → List Entry → Type 0
 SumsAdds m history = (c : Cell) (f : ℕ) → IsAddedTo m c f
     → value m (reverse history) c
-        ≡ (first_byte m c + (sum_by (adds f) m.firmware + sum_by (job_adds m f) (jobs m (reverse history)))) % 256
+    ≡ (first_byte m c + (sum_by (adds f) m.firmware + sum_by (job_adds m f) (jobs m (reverse history)))) % 256

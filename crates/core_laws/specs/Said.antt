@@ -67,8 +67,8 @@ pub record AsSaid (c : Core) : Type 0 where
   pub signals : (s : Side) (actors : List Actor) → AreDistinct actors
       → ((t : Side) (a : Actor) → seeker t (past_in c) ≡ Some a → is_among a actors ≡ true)
       → leaves s (past_in c) + (count_in (is_gone true) c.phases s actors
-          + one (c.word == 3) * count_in holds c.phases s actors) ≤ busies (other s) (past_in c)
-          + count_in is_marked c.phases (other s) actors
+      + one (c.word == 3) * count_in holds c.phases s actors) ≤ busies (other s) (past_in c)
+      + count_in is_marked c.phases (other s) actors
   -- at most one actor is in the midst of a turn that collects
   pub one_turn : (a b : Actor) → is_holding (c.phases a) ≡ true → is_holding (c.phases b) ≡ true → a ≡ b
 

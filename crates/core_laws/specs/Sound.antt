@@ -38,7 +38,7 @@ abbrev pub IsAsked : MachineData → List Entry → Type 0
 IsAsked m past =
     (j : ℕ) × (slice_get (jobs m past) j ≡ Some job.Query)
     × ((starts past ≤ j) ⊎ ((w : Actor) × (running past w ≡ Some j)
-        × IsBeforeOut w (plan_left m past w) (open_of past)))
+    × IsBeforeOut w (plan_left m past w) (open_of past)))
 
 -- the controller's event has status
 abbrev pub OwnHasStatus : MachineData → List Entry → Type 0

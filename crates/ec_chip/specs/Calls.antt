@@ -62,7 +62,7 @@ AreCodes codes = All (λ q. 0 < q) codes
 abbrev pub PutsOutInOrder : List Call → ChipData → Type 0
 PutsOutInOrder calls c =
     AreCodes c.codes → AreCodes (pushed calls)
-        → codes_out calls c ++ (after_calls calls c).codes ≡ c.codes ++ pushed calls
+    → codes_out calls c ++ (after_calls calls c).codes ≡ c.codes ++ pushed calls
 
 -- ---- burst mode
 

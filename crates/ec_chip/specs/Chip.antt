@@ -46,7 +46,7 @@ bit set = if set then 1 else 0
 abbrev pub status_bits : ChipData → ℕ
 status_bits c =
     bit (is_some c.exchange.output) + 2 * bit (is_some c.exchange.input) + 8 * bit c.command + 16 * bit c.burst
-        + 32 * bit (not (length c.codes == 0))
+    + 32 * bit (not (length c.codes == 0))
 
 -- ---- what each call asks for
 

@@ -115,8 +115,8 @@ Does request.Qr old turns taken new =
 abbrev pub AlwaysDoes : Request → ChipData → List Turn → Type 0
 AlwaysDoes r c turns =
     c.exchange ≡ quiet → (taken : Option ℕ)
-        → finished (after_turns turns (begun r c)).driver (after_turns turns (begun r c)).chip ≡ Some taken
-        → Does r c turns taken (after_turns turns (begun r c)).chip
+    → finished (after_turns turns (begun r c)).driver (after_turns turns (begun r c)).chip ≡ Some taken
+    → Does r c turns taken (after_turns turns (begun r c)).chip
 
 -- ---- the condition of the driver's calls
 

@@ -48,7 +48,7 @@ bits_in field n = min field.width (bit_of_byte field n - field.bit)
 abbrev pub joined : Field → ℕ → ℕ → ℕ → ℕ
 joined field k byte so_far =
     from_bits (bits_in field (k + 1))
-        (λ i. if nat_lt i (bits_in field k) then bit_at so_far i else bit_at byte ((field.bit + i) % 8))
+    (λ i. if nat_lt i (bits_in field k) then bit_at so_far i else bit_at byte ((field.bit + i) % 8))
 
 -- what reading the first n bytes of a field in order gives
 abbrev pub read_bytes : Field → (ℕ → ℕ) → ℕ → ℕ
@@ -65,7 +65,7 @@ outside update.WriteAsZeros old = 0
 abbrev pub replaced : Field → ℕ → ℕ → ℕ → ℕ
 replaced field k old value =
     from_bits 8 (λ j. if has_bit field (bit_of_byte field k + j) then bit_at value
-        (bit_of_byte field k + j - field.bit) else outside field.update (bit_at old j))
+    (bit_of_byte field k + j - field.bit) else outside field.update (bit_at old j))
 
 -- byte b of the region holds a bit of the field
 abbrev pub in_span : Field → ℕ → Bool

@@ -23,19 +23,19 @@ abbrev pub WrittenBits : Field → (ℕ → ℕ) → ℕ → ℕ → Type 0
 WrittenBits field cells value p =
     region_bit (written field cells value) p
     ≡ (if has_bit field p then bit_at value (p - field.bit) else
-        (if in_span field (p / 8) then outside field.update (region_bit cells p) else region_bit cells p))
+    (if in_span field (p / 8) then outside field.update (region_bit cells p) else region_bit cells p))
 
 -- what stood in a byte matters only where it is partial and the rule preserves its other bits
 abbrev pub OldIsFree : Field → ℕ → ℕ → ℕ → ℕ → Type 0
 OldIsFree field k old other value =
     (is_partial field k ≡ false) ⊎ (field.update ≡ update.Preserve → ⊥)
-        → replaced field k old value ≡ replaced field k other value
+    → replaced field k old value ≡ replaced field k other value
 
 -- the bytes of a field are those that hold a bit of it
 abbrev pub HoldsBits : Field → ℕ → Type 0
 HoldsBits field b = 1 ≤ field.width
     → ((first_byte field ≤ b) × (b < first_byte field + byte_count field)) ↔
-        ((i : ℕ) × (i < field.width) × ((field.bit + i) / 8 ≡ b))
+    ((i : ℕ) × (i < field.width) × ((field.bit + i) / 8 ≡ b))
 
 -- a byte is partial exactly where one of its eight bits is none of the field's
 abbrev pub IsPartial : Field → ℕ → Type 0

@@ -33,12 +33,27 @@ impl Model for FieldUnit {
 
     ghost Value = { Field };
 
-    ghost view = { λ f. record { region = f.region; kind = f.kind; len = f.len; bit = f.bit; width = f.width; lock =
-        f.lock; update = f.update } };
+    ghost view = { λ f. record {
+      region = f.region;
+      kind = f.kind;
+      len = f.len;
+      bit = f.bit;
+      width = f.width;
+      lock =
+          f.lock;
+      update = f.update;
+    } };
 
-    ghost inverse = { λ v. record
-        { region = v.region; kind = v.kind; len = v.len; bit = v.bit; width = v.width; lock = v.lock; update =
-        v.update } };
+    ghost inverse = { λ v. record {
+      region = v.region;
+      kind = v.kind;
+      len = v.len;
+      bit = v.bit;
+      width = v.width;
+      lock = v.lock;
+      update =
+          v.update;
+    } };
 
     ghost invariant = { λ f. (f.len ≤ most_cells f.kind) × (field_fault f.len f.bit f.width ≡ None) };
 }
@@ -61,8 +76,15 @@ impl FieldUnit {
         requires { len ≤ most_cells kind }
         ensures { MatchResult result
             (λ field. (field_fault len bit width ≡ None)
-                × (field ≡ record { region = region; kind = kind; len = len; bit = bit; width = width; lock = lock;
-                update = update }))
+            × (field ≡ record {
+              region = region;
+              kind = kind;
+              len = len;
+              bit = bit;
+              width = width;
+              lock = lock;
+              update = update;
+            }))
             (λ fault. field_fault len bit width ≡ Some fault) }
     {
         if width < 1 || width > 64 {

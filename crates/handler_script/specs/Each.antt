@@ -33,7 +33,7 @@ pub record IsTrueOn (P : Bool → Act → Bool) (field : Field) : Type 0 where
   pub lock : needs_lock field ≡ true → (P false act.Lock ≡ true) × (P false act.Unlock ≡ true)
   pub burst : (held : Bool) → bursts field ≡ true
       → (P (access_needs field held) (act.Ask request.Be) ≡ true)
-          × (P (access_needs field held) (act.Ask request.Bd) ≡ true)
+      × (P (access_needs field held) (act.Ask request.Bd) ≡ true)
   pub read : (held : Bool) (k : ℕ) → k < byte_count field → P (access_needs field held) (read_act field k) ≡ true
   pub write : (held : Bool) (k byte : ℕ) → k < byte_count field
       → P (access_needs field held) (write_act field k byte) ≡ true

@@ -18,7 +18,7 @@ GoesOn = (p : Plan) (answers more : List ℕ)
 abbrev pub StepsOn : Type 0
 StepsOn = (p : Plan) (a : Act) (byte : ℕ) (answers : List ℕ) → next_act p ≡ Some a
     → acts_of p (if brings a then byte ∷ answers else answers)
-        ≡ a ∷ acts_of (plan_after (if brings a then byte else 0) p) answers
+    ≡ a ∷ acts_of (plan_after (if brings a then byte else 0) p) answers
 
 -- where there is no answer, and the next act is to be answered with a byte, the acts are that one alone
 abbrev pub Waits : Type 0

@@ -33,7 +33,7 @@ rest_of_op o field held (stage.Writing k) last next = write_from field (access_n
 rest_of_op o field held (stage.Replacing k old) last next =
     Do (access_needs field held) (write_act field k (replaced field k old (written o field last)))
     (λ _. write_from field (access_needs field held) (k + 1) (byte_count field - (k + 1)) (written o field last)
-        (closed field held (next last)))
+    (closed field held (next last)))
 rest_of_op o field held stage.Closing last next = closed field held (next last)
 rest_of_op o field held stage.Unlocking last next = unlocked field held (next last)
 rest_of_op o field held stage.Done last next = next last

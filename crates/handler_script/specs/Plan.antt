@@ -54,8 +54,8 @@ abbrev pub write_from : Field → Bool → ℕ → ℕ → ℕ → Plan → Plan
 write_from field needs k zero value next = next
 write_from field needs k (suc left) value next =
     old_byte (reads_first field k) field needs k
-        (λ old. Do needs (write_act field k (replaced field k old value))
-        (λ _. write_from field needs (k + 1) left value next))
+    (λ old. Do needs (write_act field k (replaced field k old value))
+    (λ _. write_from field needs (k + 1) left value next))
 
 -- what stands after the bytes of a field: burst mode ends, and the lock is given back
 abbrev pub unlocked : Field → Bool → Plan → Plan
@@ -71,11 +71,11 @@ bytes_of (op.Read f) field held last next =
     read_from field (access_needs field held) 0 (byte_count field) 0 (λ value. closed field held (next value))
 bytes_of (op.Write f v) field held last next =
     write_from field (access_needs field held) 0 (byte_count field) (v % 2 ^ field.width)
-        (closed field held (next last))
+    (closed field held (next last))
 bytes_of (op.Add f v) field held last next =
     read_from field (access_needs field held) 0 (byte_count field) 0
     (λ value. write_from field (access_needs field held) 0 (byte_count field) ((value + v) % 2 ^ field.width)
-        (closed field held (next value)))
+    (closed field held (next value)))
 bytes_of _ field held last next = next last
 
 -- an op on a field, in burst mode and under the lock where they are wanted

@@ -178,8 +178,12 @@ impl Cursor {
     /// At the operation after this one.
     fn past_op(&self, last: u64, held: bool) -> Cursor
         requires { self.now.op < 4096 }
-        ensures { result ≡ record { op = self.now.op
-            + 1; place = record { stage = Stage.Before; last = last }; held = held } }
+        ensures { result ≡ record {
+          op = self.now.op
+              + 1;
+          place = record { stage = Stage.Before; last = last };
+          held = held;
+        } }
     {
         let place = Place {
             stage: Stage::Before,

@@ -43,7 +43,7 @@ impl Script {
         requires { length ops.items ≤ 4096 }
         ensures exact { MatchResult result
             (λ script. (script ≡ ops.items)
-                × (script_fault nothing_forbidden side (length fields.now) ops.items ≡ None))
+            × (script_fault nothing_forbidden side (length fields.now) ops.items ≡ None))
             (λ fault. script_fault nothing_forbidden side (length fields.now) ops.items ≡ Some fault) }
         ensures accepted { IfOk result (λ script. Accepted fields.now script) }
     {
@@ -60,7 +60,7 @@ impl Script {
         requires { length ops.items ≤ 4096 }
         ensures exact { MatchResult result
             (λ script. (script ≡ ops.items)
-                × (script_fault (R.forbids events.now) side (length fields.now) ops.items ≡ None))
+            × (script_fault (R.forbids events.now) side (length fields.now) ops.items ≡ None))
             (λ fault. script_fault (R.forbids events.now) side (length fields.now) ops.items ≡ Some fault) }
         ensures accepted { IfOk result (λ script. Accepted fields.now script) }
     {

@@ -96,4 +96,4 @@ ScriptsOnce m history = (k : ℕ) → k < length m.firmware
 abbrev pub JobsOnce : MachineData → List Entry → Type 0
 JobsOnce m history = (i j : ℕ) (e : Entry) → slice_get history i ≡ Some e → e.deed ≡ deed.Finish j
     → passed (past_of history i) e.actor
-        ≡ acts_of (job_plan m (slice_get (jobs m (past_of history i)) j)) (answers (past_of history i) e.actor)
+    ≡ acts_of (job_plan m (slice_get (jobs m (past_of history i)) j)) (answers (past_of history i) e.actor)

@@ -23,7 +23,7 @@ abbrev pub OneLog : Type 0
 OneLog = (m n : MachineData) (entries others : List Entry) (stuck told : List Event) (rest last : ℕ)
     → All IsEntry entries → All IsEntry others → All IsEvent stuck → All IsEvent told → rest < 2 ^ 32 → last < 2 ^ 32
     → log_lines (canonical m) entries stuck rest ≡ log_lines (canonical n) others told last
-        → (canonical m ≡ canonical n) × (entries ≡ others) × (stuck ≡ told) × (rest ≡ last)
+    → (canonical m ≡ canonical n) × (entries ≡ others) × (stuck ≡ told) × (rest ≡ last)
 
 -- no two machines have one canonical text
 abbrev pub OneMachine : Type 0

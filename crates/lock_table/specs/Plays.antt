@@ -16,7 +16,7 @@ module _ {B : Type 0} where
   abbrev pub Taken : (B → List Entry) → (B → Type 0) → Step (Option B) → Mine B → ℕ → Mine B → Type 0
   Taken entries is st x n y =
       (n ≡ 0 → (b : B) × is b × StartsWith (entries b) x.0.seen × (y ≡ (took (entries b) x.0, (0, Some b) ∷ x.1))
-          × EachPart (MadeIn (entries b)) (parts_in x.0.who))
+      × EachPart (MadeIn (entries b)) (parts_in x.0.who))
       × (n ≢ 0 → (n ≡ 1) × (y ≡ (missed n x.0, x.1)))
 
   -- the slot is back, empty, and the board with the caller

@@ -92,7 +92,7 @@ abbrev pub fresh_parts : List Part
 fresh_parts =
     fresh actor.Int ∷ fresh actor.Poll ∷ fresh actor.Ec
     ∷ each_below (λ k. fresh (actor.Worker k)) 4
-        (each_below (λ k. fresh (actor.Device k)) 8 (each_below (λ k. fresh (actor.Firmware k)) 8 []))
+    (each_below (λ k. fresh (actor.Device k)) 8 (each_below (λ k. fresh (actor.Firmware k)) 8 []))
 
 -- ---- parts
 
@@ -122,58 +122,132 @@ map_one f w = w
 
 -- a try that found n
 abbrev pub noted : ℕ → Part → Part
-noted n p = record { actor = p.actor; phase = p.phase; mine = p.mine; tried = p.tried
-    + 1; found = n; loaded = p.loaded; swept = p.swept }
+noted n p = record {
+  actor = p.actor;
+  phase = p.phase;
+  mine = p.mine;
+  tried = p.tried
+      + 1;
+  found = n;
+  loaded = p.loaded;
+  swept = p.swept;
+}
 
 -- a turn with these new entries was given back
 abbrev pub wrote : List Entry → Part → Part
-wrote new p = record { actor = p.actor; phase = let_go (after_deeds (deeds_of new) p.phase); mine = p.mine
-    ++ new; tried = p.tried; found = p.found; loaded = p.loaded; swept = p.swept }
+wrote new p = record {
+  actor = p.actor;
+  phase = let_go (after_deeds (deeds_of new) p.phase);
+  mine = p.mine
+      ++ new;
+  tried = p.tried;
+  found = p.found;
+  loaded = p.loaded;
+  swept = p.swept;
+}
 
 -- a load of the lock's word found n
 abbrev pub loading : ℕ → Part → Part
-loading n p = record { actor = p.actor; phase = kept.Lock (lock.Seeking (Some n)); mine = p.mine; tried = p.tried;
-    found = p.found; loaded = p.loaded ++ n ∷ []; swept = p.swept }
+loading n p = record {
+  actor = p.actor;
+  phase = kept.Lock (lock.Seeking (Some n));
+  mine = p.mine;
+  tried = p.tried;
+  found = p.found;
+  loaded = p.loaded ++ n ∷ [];
+  swept = p.swept;
+}
 
 -- an exchange against l found n
 abbrev pub trying : ℕ → ℕ → Part → Part
-trying l n p = record { actor = p.actor; phase = kept.Lock (if n == l then tried l else lock.Seeking None); mine =
-    p.mine; tried = p.tried + 1; found = n; loaded = p.loaded; swept = p.swept }
+trying l n p = record {
+  actor = p.actor;
+  phase = kept.Lock (if n == l then tried l else lock.Seeking None);
+  mine =
+      p.mine;
+  tried = p.tried + 1;
+  found = n;
+  loaded = p.loaded;
+  swept = p.swept;
+}
 
 -- a release found n
 abbrev pub releasing : ℕ → Part → Part
-releasing n p = record { actor = p.actor; phase = kept.Lock (lock.Gone (is_pending n)); mine = p.mine; tried = p.tried
-    + 1; found = n; loaded = p.loaded; swept = p.swept }
+releasing n p = record {
+  actor = p.actor;
+  phase = kept.Lock (lock.Gone (is_pending n));
+  mine = p.mine;
+  tried = p.tried
+      + 1;
+  found = n;
+  loaded = p.loaded;
+  swept = p.swept;
+}
 
 -- a pulse of the event, whose pin was clear or not
 abbrev pub pulsing : Event → Bool → Part → Part
-pulsing e clear p = record { actor = p.actor; phase = kept.Pulsed
-    (pulses_of p.phase ++ record { event = e; clear = clear } ∷ []); mine = p.mine; tried = p.tried; found = p.found;
-    loaded = p.loaded; swept = p.swept }
+pulsing e clear p = record {
+  actor = p.actor;
+  phase = kept.Pulsed
+      (pulses_of p.phase ++ record { event = e; clear = clear } ∷ []);
+  mine = p.mine;
+  tried = p.tried;
+  found = p.found;
+  loaded = p.loaded;
+  swept = p.swept;
+}
 
 -- the next pin word was n, and is in hand
 abbrev pub sweeping : ℕ → Part → Part
-sweeping n p = record { actor = p.actor; phase = kept.Holding (hand_of p.phase ++ n ∷ []); mine = p.mine; tried =
-    p.tried; found = p.found; loaded = p.loaded; swept = p.swept + 1 }
+sweeping n p = record {
+  actor = p.actor;
+  phase = kept.Holding (hand_of p.phase ++ n ∷ []);
+  mine = p.mine;
+  tried =
+      p.tried;
+  found = p.found;
+  loaded = p.loaded;
+  swept = p.swept + 1;
+}
 
 -- ---- a view after a step of its seat
 
 abbrev pub with_one : (Part → Part) → View → View
-with_one f v = record { who = map_one f v.who; seen = v.seen; told = v.told; stage = v.stage; turns = v.turns; misses
-    = v.misses }
+with_one f v = record {
+  who = map_one f v.who;
+  seen = v.seen;
+  told = v.told;
+  stage = v.stage;
+  turns = v.turns;
+  misses
+      = v.misses;
+}
 
 abbrev pub staged : Stage → View → View
 staged g v = record { who = v.who; seen = v.seen; told = v.told; stage = g; turns = v.turns; misses = v.misses }
 
 -- the turn was taken, and this history with it
 abbrev pub took : List Entry → View → View
-took h v = record { who = map_one (noted 0) v.who; seen = h; told = v.told; stage = stage.Carrying; turns = v.turns
-    + 1; misses = v.misses }
+took h v = record {
+  who = map_one (noted 0) v.who;
+  seen = h;
+  told = v.told;
+  stage = stage.Carrying;
+  turns = v.turns
+      + 1;
+  misses = v.misses;
+}
 
 -- the turn was out, which is n
 abbrev pub missed : ℕ → View → View
-missed n v = record { who = map_one (noted n) v.who; seen = v.seen; told = v.told; stage = v.stage; turns = v.turns;
-    misses = v.misses + 1 }
+missed n v = record {
+  who = map_one (noted n) v.who;
+  seen = v.seen;
+  told = v.told;
+  stage = v.stage;
+  turns = v.turns;
+  misses = v.misses + 1;
+}
 
 -- what stands behind the entries that were seen
 abbrev pub new_in : List Entry → View → List Entry
@@ -181,8 +255,15 @@ new_in h v = drop (length v.seen) h
 
 -- the turn was given back with this history
 abbrev pub gave : List Entry → View → View
-gave h v = record { who = map_one (wrote (new_in h v)) v.who; seen = h; told = v.told; stage = stage.Away; turns =
-    v.turns; misses = v.misses }
+gave h v = record {
+  who = map_one (wrote (new_in h v)) v.who;
+  seen = h;
+  told = v.told;
+  stage = stage.Away;
+  turns =
+      v.turns;
+  misses = v.misses;
+}
 
 abbrev pub loads : ℕ → View → View
 loads n v = with_one (loading n) v
@@ -219,25 +300,52 @@ more w _ = w
 
 -- the root without the actor, and a seat for it
 abbrev pub without : Actor → View → View
-without a v = record { who = less a v.who; seen = v.seen; told = v.told; stage = v.stage; turns = v.turns; misses =
-    v.misses }
+without a v = record {
+  who = less a v.who;
+  seen = v.seen;
+  told = v.told;
+  stage = v.stage;
+  turns = v.turns;
+  misses =
+      v.misses;
+}
 
 abbrev pub seated : Actor → View → View
-seated a v = record { who = lone (find a (root_parts v.who)); seen = v.seen; told = []; stage = stage.Away; turns = 0;
-    misses = 0 }
+seated a v = record {
+  who = lone (find a (root_parts v.who));
+  seen = v.seen;
+  told = [];
+  stage = stage.Away;
+  turns = 0;
+  misses = 0;
+}
 
 -- the root with the actor of another seat, and told of what that seat had seen
 abbrev pub rejoined : View → View → View
-rejoined v w = record { who = more v.who w.who; seen = v.seen; told = w.seen; stage = v.stage; turns = v.turns; misses
-    = v.misses }
+rejoined v w = record {
+  who = more v.who w.who;
+  seen = v.seen;
+  told = w.seen;
+  stage = v.stage;
+  turns = v.turns;
+  misses
+      = v.misses;
+}
 
 abbrev pub longer : List Entry → List Entry → List Entry
 longer xs ys = if nat_le (length xs) (length ys) then ys else xs
 
 -- what it was told of is seen
 abbrev pub learned : View → View
-learned v = record { who = v.who; seen = longer v.seen v.told; told = []; stage = v.stage; turns = v.turns; misses =
-    v.misses }
+learned v = record {
+  who = v.who;
+  seen = longer v.seen v.told;
+  told = [];
+  stage = v.stage;
+  turns = v.turns;
+  misses =
+      v.misses;
+}
 
 -- the root's first view: all actors, and the turn
 abbrev pub first_view : View
@@ -320,10 +428,25 @@ IsFreeHost p = (is_host p.actor ≡ true) × (p.phase ≡ kept.Free)
 
 -- one load of the lock's word found l, and one exchange n, which left this phase
 abbrev pub exchanged : LockPhase → ℕ → ℕ → Part → Part
-exchanged q l n p = record { actor = p.actor; phase = kept.Lock q; mine = p.mine; tried = p.tried
-    + 1; found = n; loaded = p.loaded ++ l ∷ []; swept = p.swept }
+exchanged q l n p = record {
+  actor = p.actor;
+  phase = kept.Lock q;
+  mine = p.mine;
+  tried = p.tried
+      + 1;
+  found = n;
+  loaded = p.loaded ++ l ∷ [];
+  swept = p.swept;
+}
 
 -- all five pin words are in hand
 abbrev pub holding : List ℕ → Part → Part
-holding hand p = record { actor = p.actor; phase = kept.Holding hand; mine = p.mine; tried = p.tried; found = p.found;
-    loaded = p.loaded; swept = p.swept + 5 }
+holding hand p = record {
+  actor = p.actor;
+  phase = kept.Holding hand;
+  mine = p.mine;
+  tried = p.tried;
+  found = p.found;
+  loaded = p.loaded;
+  swept = p.swept + 5;
+}

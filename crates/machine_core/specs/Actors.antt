@@ -106,17 +106,30 @@ FitsDeed m c d = passes d ≡ true → FitsNext m c (byte_of d)
 -- ---- each actor
 
 abbrev pub words_of : List Entry → Actor → Words
-words_of past a = record { owned = has_owned a past; disowned = has_disowned a past; busy = is_busy a past; running =
-    running past a }
+words_of past a = record {
+  owned = has_owned a past;
+  disowned = has_disowned a past;
+  busy = is_busy a past;
+  running =
+      running past a;
+}
 
 abbrev pub words_after : Deed → Words → Words
-words_after d old = record { owned = owned_after d old.owned; disowned = disowned_after d old.disowned; busy =
-    busy_after d old.busy; running = running_after d old.running }
+words_after d old = record {
+  owned = owned_after d old.owned;
+  disowned = disowned_after d old.disowned;
+  busy =
+      busy_after d old.busy;
+  running = running_after d old.running;
+}
 
 -- an actor that has done nothing, and has nothing to do
 abbrev pub idle : ActorState
-idle = record { words = record { owned = false; disowned = false; busy = false; running = None }; course =
-    course.Ended }
+idle = record {
+  words = record { owned = false; disowned = false; busy = false; running = None };
+  course =
+      course.Ended;
+}
 
 -- a deed of the actor moves what is kept of it, where these jobs were made before
 pub record Moves (m : MachineData) (made : List Job) (d : Deed) (old new : ActorState) : Type 0 where

@@ -10,14 +10,25 @@ use Rattle.machine_core.specs.declared.lock.LockState.{LockState}
 
 -- what the past tells of the lock
 abbrev pub lock_of : List Entry → LockState
-lock_of past = record { owner = owner past; os_seeker = seeker side.Os past; firmware_seeker = seeker side.Firmware
-    past; os_wake = wake side.Os past; firmware_wake = wake side.Firmware past }
+lock_of past = record {
+  owner = owner past;
+  os_seeker = seeker side.Os past;
+  firmware_seeker = seeker side.Firmware
+      past;
+  os_wake = wake side.Os past;
+  firmware_wake = wake side.Firmware past;
+}
 
 -- an entry's effect on each part of it
 abbrev pub lock_after : Actor → Deed → LockState → LockState
-lock_after a d old = record { owner = owner_after a d old.owner; os_seeker = seeker_after side.Os a d old.os_seeker;
-    firmware_seeker = seeker_after side.Firmware a d old.firmware_seeker; os_wake = wake_after side.Os a d
-    old.os_wake; firmware_wake = wake_after side.Firmware a d old.firmware_wake }
+lock_after a d old = record {
+  owner = owner_after a d old.owner;
+  os_seeker = seeker_after side.Os a d old.os_seeker;
+  firmware_seeker = seeker_after side.Firmware a d old.firmware_seeker;
+  os_wake = wake_after side.Os a d
+      old.os_wake;
+  firmware_wake = wake_after side.Firmware a d old.firmware_wake;
+}
 
 abbrev pub seeker_on : LockState → Side → Option Actor
 seeker_on lock side.Os = lock.os_seeker

@@ -91,16 +91,36 @@ up_kept p None e =
     let q = record p { controller = None } in
     let k = kept q e in
     let rows = none (machine_rows q) e in
-    all_none (machine_rows (up_with p None))
-    (more_gpes p.version (blocks q) k.geometry k.few_gpes, (rows.1.0, (rows.1.1.0, (rows.1.1.1.0,
-    (more_events p.version (blocks q) None (length p.fields) p.events k.events.few_items rows.1.1.1.1.0, rows.1.1.1.1.1)))))
+    all_none (machine_rows (up_with p None)) (
+      more_gpes p.version (blocks q) k.geometry k.few_gpes,
+      (
+        rows.1.0,
+        (
+          rows.1.1.0,
+          (
+            rows.1.1.1.0,
+            (more_events p.version (blocks q) None (length p.fields) p.events k.events.few_items rows.1.1.1.1.0, rows.1.1.1.1.1),
+          ),
+        ),
+      ),
+    )
 up_kept p (Some c) e =
     let q = record p { controller = Some c } in
     let k = kept q e in
     let rows = none (machine_rows q) e in
-    all_none (machine_rows (up_with p (Some c)))
-    (more_gpes p.version (blocks q) k.geometry k.few_gpes, (rows.1.0, (rows.1.1.0, (rows.1.1.1.0,
-    (more_events p.version (blocks q) (Some c.event) (length p.fields) p.events k.events.few_items rows.1.1.1.1.0, rows.1.1.1.1.1)))))
+    all_none (machine_rows (up_with p (Some c))) (
+      more_gpes p.version (blocks q) k.geometry k.few_gpes,
+      (
+        rows.1.0,
+        (
+          rows.1.1.0,
+          (
+            rows.1.1.1.0,
+            (more_events p.version (blocks q) (Some c.event) (length p.fields) p.events k.events.few_items rows.1.1.1.1.0, rows.1.1.1.1.1),
+          ),
+        ),
+      ),
+    )
 
 up_described : (m : MachineData) → IsDescribed m → IsDescribed (up m)
 up_described m d = record {

@@ -95,7 +95,7 @@ unfoldable pub is_given : MachineParts → Bool
 is_given p =
     is_version p.version
     && (has_glk p.version p.controller
-        && (list_all is_event_part p.events && (has_queries p.controller && have_codes p.firmware)))
+    && (list_all is_event_part p.events && (has_queries p.controller && have_codes p.firmware)))
 
 -- some parts describe the machine and break no rule
 pub record IsDescribed (m : MachineData) : Type 0 where

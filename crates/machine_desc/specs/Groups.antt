@@ -19,7 +19,7 @@ handlers_fault b p = first_of
     (events_fault p.version b (event_of p.controller) (length p.fields) p.events
     ∷ controller_fault b (event_of p.controller)
     ∷ queries_fault (forbids (map listed_part p.events) (event_of p.controller)) (length p.fields)
-        (queries_of p.controller)
+    (queries_of p.controller)
     ∷ [])
 
 abbrev pub actors_fault : MachineParts → Option BadMachine

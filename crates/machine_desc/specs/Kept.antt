@@ -42,8 +42,13 @@ abbrev pub queries_in : MachineData → List Query
 queries_in m = queries_of_controller m.controller
 
 abbrev pub counts_in : MachineData → Counts
-counts_in m = record { workers = m.workers; controller = is_some m.controller; devices = length m.devices; firmware =
-    length m.firmware }
+counts_in m = record {
+  workers = m.workers;
+  controller = is_some m.controller;
+  devices = length m.devices;
+  firmware =
+      length m.firmware;
+}
 
 -- ---- the items
 

@@ -52,8 +52,16 @@ lock_of false = lock.NoLock
 
 -- a field, with what it takes from its region
 abbrev pub field_in : Option RegionPart → FieldPart → Field
-field_in region f = record { region = f.region; kind = kind_of region; len = len_of region; bit = f.bit; width =
-    f.width; lock = lock_of f.lock; update = f.update }
+field_in region f = record {
+  region = f.region;
+  kind = kind_of region;
+  len = len_of region;
+  bit = f.bit;
+  width =
+      f.width;
+  lock = lock_of f.lock;
+  update = f.update;
+}
 
 abbrev pub field_of : List RegionPart → FieldPart → Field
 field_of regions f = field_in (slice_get regions f.region) f
@@ -68,8 +76,14 @@ abbrev pub query_of : QueryPart → Query
 query_of q = record { code = q.code; script = q.script }
 
 abbrev pub controller_of : ControllerPart → ControllerDesc
-controller_of c = record { event = c.event; silent = c.silent; fickle = c.fickle; glk = c.glk; queries = map query_of
-    c.queries }
+controller_of c = record {
+  event = c.event;
+  silent = c.silent;
+  fickle = c.fickle;
+  glk = c.glk;
+  queries = map query_of
+      c.queries;
+}
 
 -- the machine that parts describe
 abbrev pub described : MachineParts → MachineData

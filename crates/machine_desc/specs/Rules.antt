@@ -234,8 +234,13 @@ devices_fault listed own devices = in_items part.Device (breaks (nat_lt 8 (lengt
 
 -- so many of each kind of actor, and a controller or none
 abbrev pub counts : MachineParts → Counts
-counts p = record { workers = p.workers; controller = is_some p.controller; devices = length p.devices; firmware =
-    length p.firmware }
+counts p = record {
+  workers = p.workers;
+  controller = is_some p.controller;
+  devices = length p.devices;
+  firmware =
+      length p.firmware;
+}
 
 -- the machine has the actor
 abbrev pub has_actor : Counts → Actor → Bool
@@ -264,7 +269,7 @@ machine_rows p =
     ∷ events_fault p.version (blocks p) (event_of p.controller) (length p.fields) p.events
     ∷ controller_fault (blocks p) (event_of p.controller)
     ∷ queries_fault (forbids (map listed_part p.events) (event_of p.controller)) (length p.fields)
-        (queries_of p.controller)
+    (queries_of p.controller)
     ∷ firmware_fault (forbids (map listed_part p.events) (event_of p.controller)) (length p.fields) p.firmware
     ∷ devices_fault (map listed_part p.events) (event_of p.controller) p.devices
     ∷ schedule_fault (counts p) p.schedule

@@ -41,7 +41,7 @@ abbrev pub AccessesByOwner : MachineData → List Entry → Type 0
 AccessesByOwner m history = (i : ℕ) (e : Entry) (x : Access) → slice_get history i ≡ Some e
     → access_of m (past_of history i) e ≡ Some x
     → (made_by m (next_of m (past_of history i) x.by) x ≡ true)
-        × (needs_lock (plan_left m (past_of history i) x.by) ≡ true → owner (past_of history i) ≡ Some x.by)
+    × (needs_lock (plan_left m (past_of history i) x.by) ≡ true → owner (past_of history i) ≡ Some x.by)
 
 -- each read gives the last byte that was written to its cell, or the description's
 abbrev pub ReadsLast : MachineData → List Entry → Type 0
@@ -61,5 +61,5 @@ DisownsBetween m = (earlier between later : List Entry) (a b : Actor)
 abbrev pub LeavesNext : MachineData → Type 0
 LeavesNext m =
     (earlier between later : List Entry) (a : Actor) (d : Deed)
-        → Legal m (earlier ++ (entry a deed.Disown ∷ (between ++ (entry a d ∷ later))))
-        → ((j : ℕ) (e : Entry) → slice_get between j ≡ Some e → same_actor a e.actor ≡ false) → is_leave d ≡ true
+    → Legal m (earlier ++ (entry a deed.Disown ∷ (between ++ (entry a d ∷ later))))
+    → ((j : ℕ) (e : Entry) → slice_get between j ≡ Some e → same_actor a e.actor ≡ false) → is_leave d ≡ true

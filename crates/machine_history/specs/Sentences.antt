@@ -100,7 +100,7 @@ LatchesFromPulses m history = (n : Event) → latches (reverse history) n ≤ pu
 abbrev pub ConsumesRaise : MachineData → List Entry → ℕ → Event → Type 0
 ConsumesRaise m history i n =
     (j : ℕ) × (j < i) × SetsAt (status_set m n) history j true
-        × ((k : ℕ) (e : Entry) → j < k → k < i → slice_get history k ≡ Some e → e.deed ≡ deed.Claim n → ⊥)
+    × ((k : ℕ) (e : Entry) → j < k → k < i → slice_get history k ≡ Some e → e.deed ≡ deed.Claim n → ⊥)
 
 abbrev pub ClaimsConsume : MachineData → List Entry → Type 0
 ClaimsConsume m history = (i : ℕ) (e : Entry) (n : Event) → slice_get history i ≡ Some e → e.deed ≡ deed.Claim n
@@ -166,4 +166,4 @@ FrontOfWire past o = (b : ℕ) × (rest : List Move) × (wire o.asks b ≡ moves
 abbrev pub StepsByHosts : MachineData → List Entry → Type 0
 StepsByHosts m history = (i : ℕ) (e : Entry) (h : HostMove) → slice_get history i ≡ Some e → e.deed ≡ deed.Step h
     → (o : Open) × (open_of (past_of history i) ≡ Some o) × (stands_on side.Os o.by ≡ true → is_host e.actor ≡ true)
-        × (stands_on side.Os o.by ≡ false → e.actor ≡ o.by) × (e.actor ≡ actor.Int → due m (past_of history i) ≡ true)
+    × (stands_on side.Os o.by ≡ false → e.actor ≡ o.by) × (e.actor ≡ actor.Int → due m (past_of history i) ≡ true)

@@ -42,7 +42,7 @@ abbrev pub IsWrongLine : MachineData → List Entry → List Event → ℕ → �
 IsWrongLine m entries told last line =
     ((j : ℕ) × DiffersAt told (stuck m entries) j × (line ≡ length entries + j + 2))
     ⊎ ((missing : List Event) × (stuck m entries ≡ told ++ missing) × (IsRightEnd m entries told last → ⊥)
-        × (line ≡ length entries + length told + 2))
+    × (line ≡ length entries + length told + 2))
 
 -- ---- the verdict
 

@@ -79,8 +79,13 @@ asks_after (deed.Take v) old = false
 asks_after d old = old
 
 abbrev pub tally_after : Actor → Deed → Tally → Tally
-tally_after a d t = record { adds = adds_by a d + t.adds; codes = codes_by t.asks d
-    + t.codes; notifies = notifies_by d + t.notifies; asks = asks_after d t.asks }
+tally_after a d t = record {
+  adds = adds_by a d + t.adds;
+  codes = codes_by t.asks d
+      + t.codes;
+  notifies = notifies_by d + t.notifies;
+  asks = asks_after d t.asks;
+}
 
 abbrev pub tally_of : List Entry → Tally
 tally_of [] = record { adds = 0; codes = 0; notifies = 0; asks = false }

@@ -50,9 +50,15 @@ turned collect before after p = record {
 }
 
 abbrev pub turned_in : Bool → List Entry → List Entry → View → View
-turned_in collect before after v = record
-    { who = map_one (turned collect before after) v.who; seen = after; told = v.told; stage = stage.Away; turns =
-    v.turns + 1; misses = v.misses }
+turned_in collect before after v = record {
+  who = map_one (turned collect before after) v.who;
+  seen = after;
+  told = v.told;
+  stage = stage.Away;
+  turns =
+      v.turns + 1;
+  misses = v.misses;
+}
 
 -- a turn found a legal history that begins with what the seat had seen, and has of its actor the entries that it made
 pub record TurnMakes (m : MachineData) (v : View) (collect : Bool) (before after : List Entry) (w : View) : Type 0 where
@@ -87,9 +93,15 @@ finishing collect before after p = record {
 }
 
 abbrev pub finished : Bool → List Entry → View → View
-finished collect after v = record
-    { who = map_one (finishing collect v.seen after) v.who; seen = after; told = v.told; stage = stage.Away; turns =
-    v.turns; misses = v.misses }
+finished collect after v = record {
+  who = map_one (finishing collect v.seen after) v.who;
+  seen = after;
+  told = v.told;
+  stage = stage.Away;
+  turns =
+      v.turns;
+  misses = v.misses;
+}
 
 -- what a duty does in a turn of this seat, from that moment on
 abbrev pub Acts : {D : Type 0} → (D → D → List Entry → List Entry → List Event → Acted → Type 0) → Bool → View → D
