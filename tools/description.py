@@ -117,18 +117,26 @@ def operation(value, path):
 SCRIPT = each(operation, "operations")
 
 
-def controller(value, path):
-    if value is None:
-        return
-    if type(value) is not dict:
-        bad(path, "null, or an object with event, silent, fickle and queries")
-    exactly(("event", EVENT_NAME), ("silent", truth), ("fickle", truth), ("queries", each(exactly(
-        ("name", named(QUERY, "a query's name: _Q and two upper-case hexadecimal digits, from _Q01 to _QFF")), ("script", SCRIPT)),
-        "objects with name and script")))(value, path)
+QUERIES = each(exactly(("name", named(QUERY, "a query's name: _Q and two upper-case hexadecimal digits, from _Q01 to _QFF")), ("script", SCRIPT)),
+               "objects with name and script")
 
 
-WHOLE = exactly(
-    ("version", number(1, 1)),
+def controller(version):
+    """The form of a controller. In version 2 it says whether it needs the Global Lock."""
+    glk = [("glk", truth)] if version == 2 else []
+    members = [("event", EVENT_NAME), ("silent", truth), ("fickle", truth)] + glk + [("queries", QUERIES)]
+
+    def checked(value, path):
+        if value is None:
+            return
+        if type(value) is not dict:
+            bad(path, "null, or an object with %s and queries" % ", ".join(name for name, _ in members[:-1]))
+        exactly(*members)(value, path)
+    return checked
+
+
+FORMS = {version: exactly(
+    ("version", number(2, 1)),
     ("gpe", exactly(("gpe0", number(65535)), ("base1", number(65535)), ("gpe1", number(65535)))),
     ("workers", number(255)),
     ("regions", each(exactly(("kind", one_of("memory", "controller")), ("len", number(65535)), ("bytes", each(BYTE, "bytes"))), "regions")),
@@ -136,11 +144,22 @@ WHOLE = exactly(
                             ("update", one_of("preserve", "ones", "zeros"))), "fields")),
     ("events", each(exactly(("name", named(HANDLER, 'a handler\'s name: _L or _E and two upper-case hexadecimal digits, or "tmr", "pwr", '
                                            '"slp" or "rtc"')), ("refs", number(65535)), ("script", SCRIPT)), "events")),
-    ("controller", controller),
+    ("controller", controller(version)),
     ("firmware", each(SCRIPT, "scripts, each an array of operations")),
     ("devices", each(each(EVENT_NAME, "events"), "arrays of events")),
     ("schedule", each(named(ACTORS, 'an actor: "int", "poll", "ec", w0 to w3, d0 to d7 or f0 to f7'), "actors")),
-)
+) for version in (1, 2)}
+
+
+def whole_form(value, path):
+    """The form of a description, by its version; of a version that there is not, that of version 1, whose first fault it is."""
+    version = value.get("version") if type(value) is dict else None
+    FORMS[2 if type(version) is int and version == 2 else 1](value, path)
+
+
+def needs_lock(machine):
+    """Whether there is a controller that needs the Global Lock: in version 1 each does."""
+    return bool(machine["controller"]) and (machine["version"] == 1 or machine["controller"]["glk"])
 
 # ---- the rules between parts
 
@@ -178,8 +197,8 @@ class Rules:
                 yield "BadGeometry", "Gpe", 0, 0, "a block's length is even and at most 64"
         if g1 and (base < 4 * g0 or base + 4 * g1 > 256):
             yield "BadGeometry", "Gpe", 0, 0, "the second block begins after the first one's last event, and ends at event 255 at most"
-        if 4 * g0 > 128 or g1 and base + 4 * g1 > 128:
-            yield "TooManyEvents", "Gpe", 0, 0, "no event is above 127: a block of 32 bytes from event 0 on has them all"
+        if m["version"] == 1 and (4 * g0 > 128 or g1 and base + 4 * g1 > 128):
+            yield "TooManyEvents", "Gpe", 0, 0, "no event is above 127 in version 1: a block of 32 bytes from event 0 on has them all"
         if not 1 <= m["workers"] <= 4:
             yield "BadWorkers", "Workers", 0, 0, "1 to 4 workers"
         yield from self.regions()
@@ -220,7 +239,7 @@ class Rules:
                 yield "OutsideRegion", "Field", k, 0, "bits 0 to %d, those of its region" % (8 * regions[it["region"]]["len"] - 1)
 
     def events(self):
-        yield from self.many(self.machine["events"], 132, "Event")
+        yield from self.many(self.machine["events"], 132 if self.machine["version"] == 1 else 260, "Event")
         before = set()
         for k, it in enumerate(self.machine["events"]):
             event, _ = event_of(it["name"])
@@ -353,7 +372,7 @@ def weight(machine):
             inside = regions[field["region"]]["kind"] == "controller"
             entries += 7 * reads + 8 * writes + 10 * (count > 1) if inside else reads + writes
             moves += 2 * reads + 3 * writes + 2 * (count > 1) if inside else 0
-            entries += 8 if (inside or field["lock"]) and not held else 0
+            entries += 8 if (field["lock"] or inside and needs_lock(machine)) and not held else 0
         return entries, moves
 
     scripts = [size(it) for it in machine["firmware"]]
@@ -430,7 +449,7 @@ def depth(text):
 
 def check(value):
     """Raises Refused at the first fault of a value: its form, its rules, its weight."""
-    WHOLE(value, [])
+    whole_form(value, [])
     for rule, part, index, place, wanted in Rules(value).faults():
         raise Refused("BadMachine %s %s %d %d" % (rule, part, index, place), path_of(rule, part, index, place), wanted)
     heavy = weight(value)

@@ -81,12 +81,13 @@ MOVES = {"rd": 5, "wr": 6, "be": 3, "bd": 2, "qr": 3}
 
 
 class Field:
-    def __init__(self, place, item, regions):
+    def __init__(self, place, item, machine):
+        regions = machine["regions"]
         self.place, self.region, self.bit, self.width = place, item["region"], item["bit"], item["width"]
         self.update, self.first = item["update"], item["bit"] // 8
         self.count = (self.bit + self.width - 1) // 8 - self.first + 1
         self.inside = regions[self.region]["kind"] == "controller"
-        self.locks = item["lock"] or self.inside
+        self.locks = item["lock"] or self.inside and description.needs_lock(machine)
 
     def mask(self, k):
         """The bits of byte k that are the field's."""
@@ -173,11 +174,13 @@ def access(field, k, place, locked, byte=None):
     return Act(("read", field.cell(k)) if byte is None else ("write", field.cell(k), byte), place, locked)
 
 
-def query_plan():
-    """What a query job does: it asks the controller for the first code, under the lock."""
-    yield Act(("seek",), None)
-    yield Act(("begin", "qr"), None, True)
-    yield Act(("disown",), None)
+def query_plan(locked):
+    """What a query job does: it asks the controller for the first code, under the lock if the controller needs it."""
+    if locked:
+        yield Act(("seek",), None)
+    yield Act(("begin", "qr"), None, locked)
+    if locked:
+        yield Act(("disown",), None)
 
 
 # ---- the state of a machine
@@ -227,7 +230,7 @@ class State:
     def __init__(self, machine):
         self.machine, self.line = machine, 1
         self.actors = description.actors_of(machine)
-        self.fields = [Field(k, it, machine["regions"]) for k, it in enumerate(machine["fields"])]
+        self.fields = [Field(k, it, machine) for k, it in enumerate(machine["fields"])]
         own = machine["controller"]
         self.own, self.silent, self.fickle = (own["event"], own["silent"], own["fickle"]) if own else (None, False, False)
         self.slots = {"gbl": Slot("always", 0)}
@@ -276,7 +279,7 @@ class State:
 
     def job_plan(self, job):
         if job.kind == "query":
-            return query_plan()
+            return query_plan(description.needs_lock(self.machine))
         return plan(self.fields, self.scripts[job.name] if job.kind == "event" else self.queries.get(job.name[2:], []))
 
     # ---- what is there
