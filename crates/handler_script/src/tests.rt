@@ -27,6 +27,7 @@ fn memory(
     FieldUnit::new(0, RegionKind::Memory, 16, bit, width, lock, update)
 }
 
+/// A field of a controller that needs the lock.
 fn controller(bit: u32, width: u8) -> Result<FieldUnit, FieldFault> {
     let kind = RegionKind::Controller;
     FieldUnit::new(
@@ -35,7 +36,7 @@ fn controller(bit: u32, width: u8) -> Result<FieldUnit, FieldFault> {
         256,
         bit,
         width,
-        LockRule::NoLock,
+        LockRule::Lock,
         UpdateRule::Preserve,
     )
 }
